@@ -5,8 +5,8 @@ _misere() {
         case ${COMP_WORDS[i]} in -*) ;; *) command=${COMP_WORDS[i]}; break ;; esac
     done
     case $command in
-        '') options="check solve show describe play present catalogue desk help --help --version" ;;
-        help) options="check solve show describe play present catalogue desk help" ;;
+        '') options="check solve show describe play present catalogue desk infinite help --help --version" ;;
+        help) options="check solve show describe play present catalogue desk infinite help" ;;
         check) options="--limit --help" ;;
         solve) options="--limit --rounds --heaps --deep --partial --furthest --order --why --help" ;;
         show) options="--limit --help" ;;
@@ -15,6 +15,7 @@ _misere() {
         present) options="--help" ;;
         catalogue) options="--new --add --get --heaps --salvage --migrate --limit --help" ;;
         desk) options="--help" ;;
+        infinite) options="--show --limit --help" ;;
     esac
     COMPREPLY=()
     case $before in
@@ -29,6 +30,6 @@ _misere() {
         COMPREPLY=($(compgen -W "$options" -- "$word"))
         return
     fi
-    case $command in check | show | describe | play | catalogue | desk) COMPREPLY=($(compgen -f -- "$word")) ;; esac
+    case $command in check | show | describe | play | catalogue | desk | infinite) COMPREPLY=($(compgen -f -- "$word")) ;; esac
 }
 complete -o filenames -F _misere misere

@@ -24,7 +24,7 @@ fn input_bytes<S: Source>(alloc: Global, input: &mut S) -> Result<Vec<u8>, Stop<
 
 /// The bytes of the certificate in the file, or on standard input where no file is named: all of
 /// them, or one more than [`MOST_BYTES`], by which they are no certificate as all of them are none.
-pub(crate) fn given_bytes<'a, F: Folder, S: Source>(
+pub fn given_bytes<'a, F: Folder, S: Source>(
     alloc: Global,
     file: Option<&'a str>,
     folder: &mut F,

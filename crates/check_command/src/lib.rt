@@ -9,4 +9,5 @@ mod laws;
 
 pub use certifying::certified;
 pub use checking::check;
+pub use giving::given_bytes;
 pub use laws::fronts_decide;

@@ -46,3 +46,7 @@ HasNumbersWithin (plan.Present text) = ⊤
 HasNumbersWithin (plan.Catalogue file asked limit) =
     TaskHasNumbersWithin asked × IsWithin Limit limit
 HasNumbersWithin (plan.Desk script) = ⊤
+HasNumbersWithin (plan.Infinite file limit) = IsWithin Limit limit
+HasNumbersWithin (plan.ShowInfinite file limit) = IsWithin Limit limit
+HasNumbersWithin (plan.PlayInfinite file position limit) = IsWithin Limit limit
+HasNumbersWithin (plan.PlayInfiniteLines file limit) = IsWithin Limit limit

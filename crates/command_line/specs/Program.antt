@@ -74,6 +74,12 @@ catalogue = command (codes "catalogue")
 abbrev pub desk : App
 desk = command (codes "desk") (needed (codes "script") ∷ [])
 
+-- infinite FILE [POSITION] [--show] [--limit N]
+abbrev pub infinite : App
+infinite = command (codes "infinite")
+    (needed (codes "file") ∷ optional (codes "position") ∷ flag (codes "show")
+    ∷ option (codes "limit") ∷ [])
+
 -- the program's name, which has a version
 abbrev pub misere : App
 misere = record (new_app (codes "misere")) {
@@ -81,7 +87,8 @@ misere = record (new_app (codes "misere")) {
 }
 
 abbrev pub commands : List App
-commands = check ∷ solve ∷ show ∷ describe ∷ play ∷ present ∷ catalogue ∷ desk ∷ []
+commands =
+    check ∷ solve ∷ show ∷ describe ∷ play ∷ present ∷ catalogue ∷ desk ∷ infinite ∷ []
 
 -- the whole command line
 abbrev pub program : App

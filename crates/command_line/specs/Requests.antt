@@ -17,6 +17,7 @@ use Rattle.command_line.specs.declared.numbers.Quantity.TheVariants.{Limit, Roun
 use Rattle.requests.specs.Requests.{CatalogueRequest, Request}
 use Rattle.requests.specs.Requests.CatalogueRequest.{Print, New, Add, NewWith, Get, Salvage, Migrate}
 use Rattle.requests.specs.Requests.Request.{Check, Solve, SolveMany, SolveLines, Show, Describe, Play, PlayLines, Present, Catalogue, Desk}
+use Rattle.requests.specs.Requests.Request.{Infinite, ShowInfinite, PlayInfinite, PlayInfiniteLines}
 use Rattle.requests.specs.declared.plans.Aim.{Aim}
 use Rattle.requests.specs.declared.plans.Aim.TheVariants as aim
 use Rattle.requests.specs.declared.plans.SolveBounds.{SolveBounds}
@@ -231,6 +232,38 @@ catalogue_request rows = catalogue_with (first_of (codes "file") rows) (task_in 
 abbrev pub desk_request : List Row → Option Request
 desk_request rows = option_map Desk (first_of (codes "script") rows)
 
+-- positions on standard input are played by a file's certificate of an infinite quotient
+abbrev pub infinite_lines_with : Option Text → ℕ → Option Request
+infinite_lines_with None limit = None
+infinite_lines_with (Some file) limit = Some (PlayInfiniteLines file limit)
+
+-- without a position the certificate is checked, or its quotient is shown
+abbrev pub infinite_with : Option Text → (show : Bool) → (position : Option Text) → Option ℕ
+    → Option Request
+infinite_with (Some file) false None (Some limit) = Some (Infinite (named_by (Some file)) limit)
+infinite_with (Some file) true None (Some limit) =
+    Some (ShowInfinite (named_by (Some file)) limit)
+infinite_with (Some file) false (Some position) (Some limit) =
+    if bytes_eq position (codes "-")
+    then infinite_lines_with (named_by (Some file)) limit
+    else Some (PlayInfinite (named_by (Some file)) position limit)
+infinite_with _ _ _ _ = None
+
+abbrev pub infinite_request : List Row → Option Request
+infinite_request rows =
+    infinite_with (first_of (codes "file") rows) (is_set (codes "show") rows)
+    (first_of (codes "position") rows) (number_of Limit rows)
+
+-- --show stands with a position, or the certificate and the positions both stand on standard input
+abbrev pub infinite_conflicts : List Row → Bool
+infinite_conflicts rows =
+    (is_set (codes "show") rows && is_given (codes "position") rows) || play_conflicts rows
+
+-- by which of the two faults it is told that they do
+abbrev pub infinite_exclusion : List Row → Option Exclusion
+infinite_exclusion rows =
+    if is_set (codes "show") rows then Some exclusion.Infinite else Some exclusion.Play
+
 -- ---- the commands
 
 -- a command: what it is to `clap`, what it asks for, the numbers that it takes, whether options that
@@ -298,8 +331,18 @@ catalogue = record {
 abbrev pub desk : Asking
 desk = record { app = Program.desk; request = desk_request; numbers = []; conflicts = never; exclusion = untold }
 
+abbrev pub infinite : Asking
+infinite = record {
+  app = Program.infinite;
+  request = infinite_request;
+  numbers = Limit ∷ [];
+  conflicts = infinite_conflicts;
+  exclusion = infinite_exclusion;
+}
+
 abbrev pub commands : List Asking
-commands = check ∷ solve ∷ show ∷ describe ∷ play ∷ present ∷ catalogue ∷ desk ∷ []
+commands =
+    check ∷ solve ∷ show ∷ describe ∷ play ∷ present ∷ catalogue ∷ desk ∷ infinite ∷ []
 
 abbrev pub command_named : Text → Option Asking
 command_named name = find (λ c. bytes_eq c.app.top.name name) commands

@@ -35,6 +35,7 @@ exclusion_text exclusion.Catalogue =
 exclusion_text exclusion.Description = codes "misere: --latex goes without --relations\n"
 exclusion_text exclusion.Outputs =
     codes "misere: one of --latex, --relations, --json, --singular and --gap\n"
+exclusion_text exclusion.Infinite = codes "misere: --show goes without POSITION\n"
 exclusion_text exclusion.Play =
     codes "misere: standard input has the certificate or the positions\n"
 exclusion_text exclusion.Solve =

@@ -4,7 +4,7 @@ ghost use Rattle.clap.specs.Words.{all_of, first_of};
 ghost use Rattle.command_line.specs.Numbers.{IsWithin, number_of};
 ghost use Rattle.command_line.specs.Plans.{AimsWithin, AreWithin, HasNumbersWithin, TaskHasNumbersWithin};
 ghost use Rattle.command_line.specs.Refusals.{Answers, IsMistake, IsMistakeIn, conflicts_in};
-ghost use Rattle.command_line.specs.Requests.{arguments_of, catalogue, catalogue_conflicts, check, describe, describe_conflicts, desk, is_set, named_by, output_in, play};
+ghost use Rattle.command_line.specs.Requests.{arguments_of, catalogue, catalogue_conflicts, check, describe, describe_conflicts, desk, infinite, is_set, named_by, output_in, play};
 ghost use Rattle.command_line.specs.Requests.{aim_in, bounds_in, order_by, order_in, present, request_in, show, solve, solve_conflicts, solve_with, task_in};
 ghost use Rattle.requests.specs.Requests.{catalogue_request_of, request_of};
 ghost use Rattle.requests.specs.Requests.Request.{SolveMany};
@@ -319,6 +319,25 @@ fn desk_plan<'a>(given: &ArgMatches<'a>) -> Result<Plan<'a>, UsageFault>
     Ok(Plan::Desk { script })
 }
 
+fn infinite_plan<'a>(given: &ArgMatches<'a>) -> Result<Plan<'a>, UsageFault>
+    ensures { Answers infinite (arguments_of given.now) result }
+{
+    let file = named_by(Some(needed(given, "file")?));
+    let limit = number(given, Quantity::Limit)?;
+    match (flag(given, "show"), value(given, "position"), file) {
+        (false, None, file) => Ok(Plan::Infinite { file, limit }),
+        (true, None, file) => Ok(Plan::ShowInfinite { file, limit }),
+        (false, Some("-"), Some(file)) => Ok(Plan::PlayInfiniteLines { file, limit }),
+        (false, Some("-"), None) => Err(UsageFault::Exclusive(Exclusion::Play)),
+        (false, Some(position), file) => Ok(Plan::PlayInfinite {
+            file,
+            position,
+            limit,
+        }),
+        (true, Some(_), _) => Err(UsageFault::Exclusive(Exclusion::Infinite)),
+    }
+}
+
 /// What the command of this name asks for with its arguments.
 pub(crate) fn command_plan<'a>(
     alloc: Global,
@@ -344,6 +363,7 @@ pub(crate) fn command_plan<'a>(
         "present" => present_plan(given),
         "catalogue" => catalogue_plan(given),
         "desk" => desk_plan(given),
+        "infinite" => infinite_plan(given),
         _ => Err(UsageFault::Incomplete),
     }
 }

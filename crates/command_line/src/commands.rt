@@ -1,7 +1,7 @@
 //! The commands and their arguments, as `clap` reads them.
 ghost use Rattle.std.specs.Prelude.{◌≡◌, ◌++◌, ◌∷◌, [], List, IfOk, codes, false, true};
 ghost use Rattle.clap.specs.Words.{App, Rule, Text, app_of, new_app, rule_of, with_subcommand};
-ghost use Rattle.command_line.specs.Program.{catalogue, check, command, describe, desk, flag, misere, needed};
+ghost use Rattle.command_line.specs.Program.{catalogue, check, command, describe, desk, flag, infinite, misere, needed};
 ghost use Rattle.command_line.specs.Program.{option, optional, play, present, program, several, show, solve};
 
 use clap::{Arg, ArgAction, Command};
@@ -222,6 +222,20 @@ fn desk_command<'a>(alloc: Global) -> Result<Command<'a>, AllocError>
     command(alloc, "desk", about).arg(needed(alloc, "script", "SCRIPT", script))
 }
 
+fn infinite_command<'a>(alloc: Global) -> Result<Command<'a>, AllocError>
+    ensures { IfOk result (λ c. app_of c ≡ infinite) }
+{
+    let about = "Check a certificate of an infinite quotient, and print what it shows";
+    let position = "Print a winning move in this position: the sizes of the heaps in one word; as - \
+in that of each line of standard input";
+    let show = "Print how large the quotient is, and the positions that show that it is infinite";
+    let made = Ok(command(alloc, "infinite", about));
+    let made = with_arg(made, needed(alloc, "file", "FILE", NAMED));
+    let made = with_arg(made, optional(alloc, "position", "POSITION", position));
+    let made = with_arg(made, flag(alloc, "show", show));
+    with_arg(made, limit(alloc))
+}
+
 /// The program's name, version and purpose.
 fn misere_command<'a>(alloc: Global) -> Command<'a>
     ensures { app_of result ≡ misere }
@@ -263,5 +277,6 @@ pub fn program_command<'a>(alloc: Global) -> Result<Command<'a>, AllocError>
     let program = with(program, play_command(alloc));
     let program = with(program, present_command(alloc));
     let program = with(program, catalogue_command(alloc));
-    with(program, desk_command(alloc))
+    let program = with(program, desk_command(alloc));
+    with(program, infinite_command(alloc))
 }

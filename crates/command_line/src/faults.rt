@@ -14,7 +14,9 @@ pub enum Exclusion {
     /// The options of `describe` that say what is printed, one of `--json`, `--singular` and `--gap`
     /// among them.
     Outputs,
-    /// The certificate and the positions of `play`, both on standard input.
+    /// `--show` of `infinite` beside a position.
+    Infinite,
+    /// The certificate and the positions of `play` or `infinite`, both on standard input.
     Play,
     /// The options of `solve` that say how far a search goes.
     Solve,
@@ -66,6 +68,7 @@ fn exclusion_line(exclusion: Exclusion) -> &'static str
         Exclusion::Outputs => {
             "misere: one of --latex, --relations, --json, --singular and --gap\n"
         }
+        Exclusion::Infinite => "misere: --show goes without POSITION\n",
         Exclusion::Play => "misere: standard input has the certificate or the positions\n",
         Exclusion::Solve => {
             "misere: one of --heaps, --deep, --partial and --furthest, and --furthest without --order\n"

@@ -9,6 +9,7 @@ use Rattle.requests.specs.declared.plans.Output.{Output}
 use Rattle.requests.specs.declared.plans.Output.TheVariants.{Description, Latex, Json, Relations, Singular, Gap}
 use Rattle.requests.specs.Requests.{Request}
 use Rattle.requests.specs.Requests.Request.{Check, Solve, SolveMany, SolveLines, Show, Describe, Play, PlayLines, Present, Catalogue, Desk}
+use Rattle.requests.specs.Requests.Request.{Infinite, ShowInfinite, PlayInfinite, PlayInfiniteLines}
 
 -- what has no text is nothing
 pub option_none : (told : Option (Bor (List ℕ)))
@@ -44,6 +45,10 @@ module _ (input : Option (List ℕ)) (before after : Option (List ℕ → Option
   plainly (Present presentation) text succeeds h = (h, refl)
   plainly (Catalogue file task limit) text succeeds h = (h, refl)
   plainly (Desk script) text succeeds h = (h, refl)
+  plainly (Infinite file limit) text succeeds h = (h, refl)
+  plainly (ShowInfinite file limit) text succeeds h = (h, refl)
+  plainly (PlayInfinite file position limit) text succeeds h = (h, refl)
+  plainly (PlayInfiniteLines file limit) text succeeds h = (h, refl)
 
   -- no line stands beside what is said of a request that asks for no relations
   pub silent : (request : Request) (text : List ℕ) (succeeds : Bool) (told : Option (List ℕ))
@@ -61,3 +66,7 @@ module _ (input : Option (List ℕ)) (before after : Option (List ℕ → Option
   silent (Present presentation) text succeeds told e h = h.1
   silent (Catalogue file task limit) text succeeds told e h = h.1
   silent (Desk script) text succeeds told e h = h.1
+  silent (Infinite file limit) text succeeds told e h = h.1
+  silent (ShowInfinite file limit) text succeeds told e h = h.1
+  silent (PlayInfinite file position limit) text succeeds told e h = h.1
+  silent (PlayInfiniteLines file limit) text succeeds told e h = h.1

@@ -12,6 +12,7 @@ use Rattle.play_command.specs.Plays.{IsPlayCause}
 use Rattle.requests.specs.declared.plans.Output.TheVariants.{Relations}
 use Rattle.requests.specs.Requests.{Request}
 use Rattle.requests.specs.Requests.Request.{Check, Solve, SolveMany, SolveLines, Show, Describe, Play, PlayLines, Present, Catalogue, Desk}
+use Rattle.requests.specs.Requests.Request.{Infinite, ShowInfinite, PlayInfinite, PlayInfiniteLines}
 use Rattle.solve_command.specs.Solved.{IsSolveCause}
 
 -- How often each device has failed that a command reads or changes.
@@ -49,6 +50,14 @@ IsCause input (Catalogue file task limit) before after stop =
     StopsTask file task (catalogue.failed before.reads before.writes)
     (catalogue.failed after.reads after.writes) stop
 IsCause input (Desk script) before after stop = ⊥
+IsCause input (Infinite file limit) before after stop =
+    IsGivenCause file (given before) (given after) stop
+IsCause input (ShowInfinite file limit) before after stop =
+    IsGivenCause file (given before) (given after) stop
+IsCause input (PlayInfinite file position limit) before after stop =
+    IsPlayCause file position (given before) (given after) stop
+IsCause input (PlayInfiniteLines file limit) before after stop =
+    IsPlayLinesCause file (AreLinesOf input) (given before) (given after) stop
 
 -- the request reads standard input
 abbrev pub reads_input : Option Request → Bool
@@ -58,6 +67,10 @@ reads_input (Some (Describe file output basis limit)) = is_none file
 reads_input (Some (Play file position limit)) = is_none file
 reads_input (Some (PlayLines file limit)) = true
 reads_input (Some (SolveLines bounds)) = true
+reads_input (Some (Infinite file limit)) = is_none file
+reads_input (Some (ShowInfinite file limit)) = is_none file
+reads_input (Some (PlayInfinite file position limit)) = is_none file
+reads_input (Some (PlayInfiniteLines file limit)) = true
 reads_input _ = false
 
 -- the request reads or writes files
@@ -69,6 +82,10 @@ takes_files (Some (Play file position limit)) = is_some file
 takes_files (Some (PlayLines file limit)) = true
 takes_files (Some (Catalogue file task limit)) = true
 takes_files (Some (Desk script)) = true
+takes_files (Some (Infinite file limit)) = is_some file
+takes_files (Some (ShowInfinite file limit)) = is_some file
+takes_files (Some (PlayInfinite file position limit)) = is_some file
+takes_files (Some (PlayInfiniteLines file limit)) = true
 takes_files _ = false
 
 -- the request asks for a description, or for a quotient's relations

@@ -5,11 +5,16 @@ use Rattle.catalogue_command.specs.Tasks.{KeepsCatalogue, catalogue_written}
 use Rattle.check_command.specs.Checks.{AreGiven, Checks}
 use Rattle.command_results.specs.Lines.{AreLinesOf}
 use Rattle.describe_command.specs.Described.{Describes}
+use Rattle.infinite_command.specs.Checks.{ChecksInfinite}
+use Rattle.infinite_command.specs.Many.{PlaysInfiniteLines}
+use Rattle.infinite_command.specs.Plays.{PlaysInfinite}
+use Rattle.infinite_command.specs.Shown.{ShowsInfinite}
 use Rattle.play_command.specs.Many.{AreFileOf, PlaysLines}
 use Rattle.play_command.specs.Plays.{Plays}
 use Rattle.present_command.specs.Presented.{Presents}
 use Rattle.requests.specs.Requests.{Request}
 use Rattle.requests.specs.Requests.Request.{Check, Solve, SolveMany, SolveLines, Show, Describe, Play, PlayLines, Present, Catalogue, Desk}
+use Rattle.requests.specs.Requests.Request.{Infinite, ShowInfinite, PlayInfinite, PlayInfiniteLines}
 use Rattle.show_command.specs.Shown.{Shows}
 use Rattle.solve_command.specs.Many.{AnswersCodes, SolvesLines}
 use Rattle.solve_command.specs.Solved.{Solves}
@@ -37,6 +42,14 @@ Says input before after (Present presentation) text succeeds = Presents presenta
 Says input before after (Catalogue file task limit) text succeeds =
     KeepsCatalogue limit before after file task text succeeds
 Says input before after (Desk script) text succeeds = ⊥
+Says input before after (Infinite file limit) text succeeds =
+    ChecksInfinite (AreGiven input before file) text succeeds
+Says input before after (ShowInfinite file limit) text succeeds =
+    ShowsInfinite (AreGiven input before file) text succeeds
+Says input before after (PlayInfinite file position limit) text succeeds =
+    PlaysInfinite (AreGiven input before file) position text succeeds
+Says input before after (PlayInfiniteLines file limit) text succeeds =
+    PlaysInfiniteLines (AreFileOf before file) (AreLinesOf input) text succeeds
 
 -- the same, with the line that is told beside it: a description alone may have one
 abbrev pub RespondsWith : Option (List ℕ) → Option (List ℕ → Option (List ℕ))

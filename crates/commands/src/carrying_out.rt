@@ -12,6 +12,7 @@ use command_results::{Noted, Said, Stop};
 use describe_command::describe;
 use descriptions::Form;
 use folders::Folder;
+use infinite_command::{infinite, play_infinite, play_infinite_lines, show_infinite};
 use play_command::{play, play_lines};
 use present_command::present;
 use requests::Plan;
@@ -93,6 +94,16 @@ fn say<'a, F: Folder, S: Source>(
             limit,
         } => play(alloc, file, position, limit, folder, input),
         Plan::PlayLines { file, limit } => play_lines(alloc, file, limit, folder, input),
+        Plan::Infinite { file, limit } => infinite(alloc, file, limit, folder, input),
+        Plan::ShowInfinite { file, limit } => show_infinite(alloc, file, limit, folder, input),
+        Plan::PlayInfinite {
+            file,
+            position,
+            limit,
+        } => play_infinite(alloc, file, position, limit, folder, input),
+        Plan::PlayInfiniteLines { file, limit } => {
+            play_infinite_lines(alloc, file, limit, folder, input)
+        }
         Plan::Present { text } => present(alloc, text),
         Plan::Solve { code, bounds } => solve(alloc, code, bounds),
         Plan::SolveMany { codes, bounds } => solve_many(alloc, &codes, bounds),

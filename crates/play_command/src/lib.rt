@@ -6,5 +6,5 @@ mod many;
 mod playing;
 
 pub use lines::answer_text;
-pub use many::play_lines;
-pub use playing::play;
+pub use many::{no_position, play_lines};
+pub use playing::{beyond, play, position_of};

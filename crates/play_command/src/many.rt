@@ -15,7 +15,7 @@ use std::alloc::{AllocError, Global};
 use streams::Source;
 
 /// That a line is no position.
-fn no_position(alloc: Global) -> Result<Said, AllocError>
+pub fn no_position(alloc: Global) -> Result<Said, AllocError>
     ensures text { IfOk result (λ s. s.text.items ≡ no_position_line) }
     ensures succeeds { IfOk result (λ s. s.succeeds ≡ false) }
 {

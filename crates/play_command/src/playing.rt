@@ -17,7 +17,7 @@ use std::alloc::{AllocError, Global};
 use streams::Source;
 
 /// The position of the text.
-fn position_of(alloc: Global, text: &str) -> Result<Position, Stop<'static>>
+pub fn position_of(alloc: Global, text: &str) -> Result<Position, Stop<'static>>
     ensures read { IfOk result (IsTextOf text.now) }
     ensures stops { IfErr result (IsPositionCause text.now) }
 {
@@ -41,7 +41,7 @@ fn answered(alloc: Global, certified: &Certified, position: &Position) -> Result
 }
 
 /// That the certificate doesn't speak of the position.
-fn beyond(alloc: Global) -> Result<Said, AllocError>
+pub fn beyond(alloc: Global) -> Result<Said, AllocError>
     ensures text { IfOk result (λ s. s.text.items ≡ beyond_line) }
     ensures succeeds { IfOk result (λ s. s.succeeds ≡ false) }
 {

@@ -30,6 +30,10 @@ pub data Request : Type 0 where
   Present : List ℕ → Request
   Catalogue : List ℕ → CatalogueRequest → ℕ → Request
   Desk : List ℕ → Request
+  Infinite : Option (List ℕ) → ℕ → Request
+  ShowInfinite : Option (List ℕ) → ℕ → Request
+  PlayInfinite : Option (List ℕ) → List ℕ → ℕ → Request
+  PlayInfiniteLines : List ℕ → ℕ → Request
 
 -- what a task asks for
 abbrev pub catalogue_request_of : CatalogueTask → CatalogueRequest
@@ -57,3 +61,8 @@ request_of (plan.Present text) = Present text.now
 request_of (plan.Catalogue file asked limit) =
     Catalogue file.now (catalogue_request_of asked) limit
 request_of (plan.Desk script) = Desk script.now
+request_of (plan.Infinite file limit) = Infinite (option_map (λ f. f.now) file) limit
+request_of (plan.ShowInfinite file limit) = ShowInfinite (option_map (λ f. f.now) file) limit
+request_of (plan.PlayInfinite file position limit) =
+    PlayInfinite (option_map (λ f. f.now) file) position.now limit
+request_of (plan.PlayInfiniteLines file limit) = PlayInfiniteLines file.now limit

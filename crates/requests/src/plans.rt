@@ -92,6 +92,31 @@ pub enum Plan<'a> {
     Desk {
         script: &'a str,
     },
+    /// Check the certificate of an infinite quotient in the file, or on standard input where no file
+    /// is named, and keep at most so many pairs.
+    Infinite {
+        file: Option<&'a str>,
+        limit: u32,
+    },
+    /// Print the infinite quotient that the file certifies under the limit, or standard input where no
+    /// file is named.
+    ShowInfinite {
+        file: Option<&'a str>,
+        limit: u32,
+    },
+    /// Answer in a position by the infinite quotient that the file certifies under the limit, or
+    /// standard input where no file is named.
+    PlayInfinite {
+        file: Option<&'a str>,
+        position: &'a str,
+        limit: u32,
+    },
+    /// Answer in the position of each line of standard input by the infinite quotient that the file
+    /// certifies under the limit.
+    PlayInfiniteLines {
+        file: &'a str,
+        limit: u32,
+    },
 }
 
 /// What is printed of a quotient that is described.

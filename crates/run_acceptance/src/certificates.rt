@@ -20,6 +20,15 @@ pub const OF_0_33: &str = "mqc 1\ncode 0.33\norder 6\nstart 1\nperiod 3\nphi 1 2
 words 0:1 0:2 1:2 2:2 3:2\nrow 0 1 2 3 4 5\nrow 1 0 3 2 5 4\nrow 2 3 4 5 2 3\nrow 3 2 5 4 3 2\n\
 row 4 5 2 3 4 5\nrow 5 4 3 2 5 4\napart 0 1 1 0 4 0 0 4 0 2 0 1 0 1 0\nend\n";
 
+/// The infinite quotient of 0.354 to heap 5, of order 12.
+pub const OF_0_354: &str = "mqi 1\ncode 0.354\nheaps 5\norder 12\nphi 1 2 3 4 3\n\
+track 0 0 1 8 6 6 2:3:0 3:4:0 4:2:0 5:0:1\n\
+words 0:1 0:2 0:3 0:4 1:2 2:3 2:4 3:3 3:4 6:3 6:4\nrow 1 0 5 4 3 2 7 6 9 8 11 10\n\
+row 2 5 2 6 7 5 6 7 10 11 10 11\nrow 3 4 6 8 9 7 10 11 8 9 10 11\n\
+row 4 3 7 9 8 6 11 10 9 8 11 10\nregion 1 8000\nregion 2 0008\nregion 3 4020\n\
+region 6 0020\nregion 7 0010\nregion 8 50aa\nregion 9 2000\nregion 10 502a\nregion 11 2000\n\
+base 2 4 5\nup 5 5 5 5 5 5\ndown 2 2\nend\n";
+
 /// The quotient of 0.75, of order 8.
 pub const OF_0_75: &str =
     "mqc 1\ncode 0.75\norder 8\nstart 8\nperiod 2\nphi 1 2 1 2 3 2 3 2 4\nportion 1 7\n\

@@ -13,6 +13,10 @@ enum Asked {
     Describe(Option<&'static str>, Output, bool, u32),
     Play(Option<&'static str>, &'static str, u32),
     PlayLines(&'static str, u32),
+    Infinite(Option<&'static str>, u32),
+    ShowInfinite(Option<&'static str>, u32),
+    PlayInfinite(Option<&'static str>, &'static str, u32),
+    PlayInfiniteLines(&'static str, u32),
     Present(&'static str),
     Catalogue(&'static str, CatalogueTask<'static>, u32),
     Desk(&'static str),
@@ -99,6 +103,14 @@ fn plan_of(asked: &Asked) -> Plan<'static> {
             limit,
         },
         Asked::PlayLines(file, limit) => Plan::PlayLines { file, limit },
+        Asked::Infinite(file, limit) => Plan::Infinite { file, limit },
+        Asked::ShowInfinite(file, limit) => Plan::ShowInfinite { file, limit },
+        Asked::PlayInfinite(file, position, limit) => Plan::PlayInfinite {
+            file,
+            position,
+            limit,
+        },
+        Asked::PlayInfiniteLines(file, limit) => Plan::PlayInfiniteLines { file, limit },
         Asked::Present(text) => Plan::Present { text },
         Asked::Catalogue(file, task, limit) => task_of(file, task, limit),
         Asked::Desk(script) => Plan::Desk { script },
@@ -134,7 +146,7 @@ impl Row for Asks {
     }
 }
 
-static ASKED: [Asks; 60] = [
+static ASKED: [Asks; 65] = [
     Asks("check", Asked::Check(None, 100000)),
     Asks("check|a.mqc", Asked::Check(Some("a.mqc"), 100000)),
     Asks("check|--limit|1", Asked::Check(None, 1)),
@@ -203,6 +215,23 @@ static ASKED: [Asks; 60] = [
         Asked::Play(Some("a.mqc"), "1 2 2", 1000000),
     ),
     Asks("play|a.mqc|-", Asked::PlayLines("a.mqc", 100000)),
+    Asks("infinite|a.mqi", Asked::Infinite(Some("a.mqi"), 100000)),
+    Asks(
+        "infinite|a.mqi|--limit=7",
+        Asked::Infinite(Some("a.mqi"), 7),
+    ),
+    Asks(
+        "infinite|a.mqi|--show",
+        Asked::ShowInfinite(Some("a.mqi"), 100000),
+    ),
+    Asks(
+        "infinite|a.mqi|4 2|--limit|8",
+        Asked::PlayInfinite(Some("a.mqi"), "4 2", 8),
+    ),
+    Asks(
+        "infinite|a.mqi|-",
+        Asked::PlayInfiniteLines("a.mqi", 100000),
+    ),
     Asks("play|--limit|7|a.mqc|-", Asked::PlayLines("a.mqc", 7)),
     Asks("play|a.mqc|-|--limit=8", Asked::PlayLines("a.mqc", 8)),
     Asks("present|a^2=1 b^3=b", Asked::Present("a^2=1 b^3=b")),
@@ -369,7 +398,7 @@ const DEEP: SolveBounds = SolveBounds {
 };
 
 /// `-` is standard input, where a certificate is asked for alone.
-static BY_INPUT: [Asks; 8] = [
+static BY_INPUT: [Asks; 11] = [
     Asks("check|-|--limit|8", Asked::Check(None, 8)),
     Asks("check|./-", Asked::Check(Some("./-"), 100000)),
     Asks("show|-", Asked::Show(None, 100000)),
@@ -382,6 +411,9 @@ static BY_INPUT: [Asks; 8] = [
         Asked::Describe(None, Output::Description, true, 100000),
     ),
     Asks("play|-|1 2 2", Asked::Play(None, "1 2 2", 100000)),
+    Asks("infinite|-", Asked::Infinite(None, 100000)),
+    Asks("infinite|-|--show", Asked::ShowInfinite(None, 100000)),
+    Asks("infinite|-|4 2", Asked::PlayInfinite(None, "4 2", 100000)),
     Asks(
         "catalogue|-",
         Asked::Catalogue("-", CatalogueTask::Print, 100000),
@@ -391,8 +423,8 @@ static BY_INPUT: [Asks; 8] = [
 
 #[test]
 fn asks_for_plans(rt: HostRuntime) {
-    compare(&rt, "ASKED", count_held(rt.alloc(), &ASKED), 60);
-    compare(&rt, "BY_INPUT", count_held(rt.alloc(), &BY_INPUT), 8);
+    compare(&rt, "ASKED", count_held(rt.alloc(), &ASKED), 65);
+    compare(&rt, "BY_INPUT", count_held(rt.alloc(), &BY_INPUT), 11);
     compare(&rt, "ASKED_MANY", count_held(rt.alloc(), &ASKED_MANY), 5);
 }
 
@@ -433,8 +465,18 @@ impl Row for Refuses {
     }
 }
 
-static REFUSED: [Refuses; 146] = [
+static REFUSED: [Refuses; 153] = [
     Refuses("play|-|-", Why::Exclusive(Exclusion::Play)),
+    Refuses("infinite|-|-", Why::Exclusive(Exclusion::Play)),
+    Refuses(
+        "infinite|a.mqi|1|--show",
+        Why::Exclusive(Exclusion::Infinite),
+    ),
+    Refuses("infinite|a.mqi|--limit=0", Why::Number(Quantity::Limit)),
+    Refuses("infinite", Why::Words),
+    Refuses("infinite|a.mqi|1|2", Why::Words),
+    Refuses("infinite|--help", Why::Help("<FILE> [POSITION]")),
+    Refuses("--help", Why::Help("  infinite ")),
     Refuses("play|--limit=3|-|-", Why::Exclusive(Exclusion::Play)),
     Refuses("play|a.mqc|-|--limit|0", Why::Number(Quantity::Limit)),
     Refuses("check|--limit|0", Why::Number(Quantity::Limit)),
@@ -724,7 +766,7 @@ fn is_incomplete(alloc: Global) -> bool {
 
 #[test]
 fn tells_why_words_ask_for_nothing(rt: HostRuntime) {
-    compare(&rt, "REFUSED", count_held(rt.alloc(), &REFUSED), 146);
+    compare(&rt, "REFUSED", count_held(rt.alloc(), &REFUSED), 153);
     compare(&rt, "no command", is_incomplete(rt.alloc()), true);
 }
 

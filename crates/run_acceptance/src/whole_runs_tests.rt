@@ -66,7 +66,7 @@ fn ends_with<S: Source>(alloc: Global, run: &Run, input: &mut S, held: &str) -> 
 const YES: &str = "yes 0.3 order 2 start 1 period 2\n";
 
 /// Of most a second call of the folder would fail.
-static ROWS: [Run; 75] = [
+static ROWS: [Run; 83] = [
     Run(
         "check|0.33.mqc",
         2,
@@ -85,6 +85,26 @@ static ROWS: [Run; 75] = [
     Run("play|0.33.mqc|2 2", 2, 0, "lost\n", ""),
     Run("play|text_crlf.mqc|1", 2, 1, "no 1 Text\n", ""),
     Run("show|text_crlf.mqc", 2, 1, "no 1 Text\n", ""),
+    Run("check|0.354.mqi", 2, 1, "no 1 Text\n", ""),
+    Run("infinite|0.3.mqc", 2, 1, "no 1 Text\n", ""),
+    Run("infinite|0.354.mqi", 2, 0, "infinite 0.354 heaps 5\n", ""),
+    Run(
+        "infinite|0.354.mqi|--show",
+        2,
+        0,
+        "infinite 0.354 heaps 5\norder 12 tracks 1\nbase 2 4 5\nup 5 5 5 5 5 5\ndown 2 2\n",
+        "",
+    ),
+    Run(
+        "infinite|0.354.mqi|4 2 5 5 5 5 5 5 5 5",
+        2,
+        0,
+        "wins 4 -> 3\n",
+        "",
+    ),
+    Run("infinite|0.354.mqi|4 2 5 5 5 5 5 5 5", 2, 0, "lost\n", ""),
+    Run("infinite|0.354.mqi|0", 2, 0, "ended\n", ""),
+    Run("infinite|0.354.mqi|6", 2, 1, "refused 23 Beyond\n", ""),
     Run(
         "show|0.3.mqc",
         2,
@@ -381,7 +401,14 @@ impl Row for Read {
 /// A run with positions on standard input. A second reading of a file would fail.
 struct Played(Run);
 
-static PLAYED: [Played; 2] = [
+static PLAYED: [Played; 3] = [
+    Played(Run(
+        "infinite|0.354.mqi|-",
+        2,
+        1,
+        "lost\nnot a position\nended\n",
+        "",
+    )),
     Played(Run("play|0.33.mqc|-", 2, 1, "lost\nnot a position\nended\n", "")),
     Played(Run(
         "play|part.mqc|-|--limit|1000000",
@@ -404,7 +431,7 @@ struct Unread(Run);
 
 const UNREAD_INPUT: &str = "misere: cannot read standard input\n";
 
-static UNREAD: [Unread; 7] = [
+static UNREAD: [Unread; 8] = [
     Unread(Run("check", 2, 3, "", UNREAD_INPUT)),
     Unread(Run("check|-", 2, 3, "", UNREAD_INPUT)),
     Unread(Run("show|-", 2, 3, "", UNREAD_INPUT)),
@@ -412,6 +439,7 @@ static UNREAD: [Unread; 7] = [
     Unread(Run("play|-|1", 2, 3, "", UNREAD_INPUT)),
     Unread(Run("play|0.3.mqc|-", 2, 3, "", UNREAD_INPUT)),
     Unread(Run("solve|-", 2, 3, "", UNREAD_INPUT)),
+    Unread(Run("infinite|-", 2, 3, "", UNREAD_INPUT)),
 ];
 
 impl Row for Unread {
@@ -428,11 +456,11 @@ fn makes_anew(alloc: Global) -> bool {
 
 #[test]
 fn does_what_is_asked(rt: HostRuntime) {
-    compare(&rt, "ROWS", count_held(rt.alloc(), &ROWS), 75);
+    compare(&rt, "ROWS", count_held(rt.alloc(), &ROWS), 83);
     compare(&rt, "MADE", makes_anew(rt.alloc()), true);
     compare(&rt, "READ", count_held(rt.alloc(), &READ), 6);
-    compare(&rt, "UNREAD", count_held(rt.alloc(), &UNREAD), 7);
-    compare(&rt, "PLAYED", count_held(rt.alloc(), &PLAYED), 2);
+    compare(&rt, "UNREAD", count_held(rt.alloc(), &UNREAD), 8);
+    compare(&rt, "PLAYED", count_held(rt.alloc(), &PLAYED), 3);
 }
 
 /// A run whose output can't be written, which is told.

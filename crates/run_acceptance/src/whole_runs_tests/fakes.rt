@@ -1,17 +1,18 @@
 //! The files of the runs, and words that may be no text.
-use crate::certificates::{OF_0_3, OF_0_33, OF_0_75, OF_0_B, PART_OF_0_75};
+use crate::certificates::{OF_0_3, OF_0_33, OF_0_75, OF_0_354, OF_0_B, PART_OF_0_75};
 use crate::files::{FIRST_VERSION, ONE_ENTRY};
 use std::alloc::Global;
 use std::env::FillError;
 use std::rt::Env;
 
 /// Certificates, a text that is none, catalogues, and a script that checks one of the certificates.
-pub static SAMPLES: [(&str, &str); 9] = [
+pub static SAMPLES: [(&str, &str); 10] = [
     ("0.3.mqc", OF_0_3),
     ("0.33.mqc", OF_0_33),
     ("0.75.mqc", OF_0_75),
     ("0.b.mqc", OF_0_B),
     ("part.mqc", PART_OF_0_75),
+    ("0.354.mqi", OF_0_354),
     ("first.json", FIRST_VERSION),
     ("text_crlf.mqc", "mqc 1\r\n"),
     ("x.json", ONE_ENTRY),

@@ -32,8 +32,8 @@ passed false x rest e r = r
 unnamed : (name : Text) → (name ≡ codes "check" → ⊥) → (name ≡ codes "solve" → ⊥)
     → (name ≡ codes "show" → ⊥) → (name ≡ codes "describe" → ⊥) → (name ≡ codes "play" → ⊥)
     → (name ≡ codes "present" → ⊥) → (name ≡ codes "catalogue" → ⊥)
-    → (name ≡ codes "desk" → ⊥) → command_named name ≡ None
-unnamed name check solve show describe play present catalogue desk =
+    → (name ≡ codes "desk" → ⊥) → (name ≡ codes "infinite" → ⊥) → command_named name ≡ None
+unnamed name check solve show describe play present catalogue desk infinite =
     passed _ _ _ (other name (codes "check") check)
     (passed _ _ _ (other name (codes "solve") solve)
     (passed _ _ _ (other name (codes "show") show)
@@ -41,7 +41,8 @@ unnamed name check solve show describe play present catalogue desk =
     (passed _ _ _ (other name (codes "play") play)
     (passed _ _ _ (other name (codes "present") present)
     (passed _ _ _ (other name (codes "catalogue") catalogue)
-    (passed _ _ _ (other name (codes "desk") desk) refl)))))))
+    (passed _ _ _ (other name (codes "desk") desk)
+    (passed _ _ _ (other name (codes "infinite") infinite) refl))))))))
 
 -- what the command of the name answers
 module _ (name : Text) (rows : List Row) (command : Asking) (is : command_named name ≡ Some command)
@@ -89,7 +90,7 @@ returns-in_default-clause-nothing c = λ _.
     ap (option_and_then (λ (a : Asking). a.request (rows_of (found_of c.args.given.now))))
     (unnamed c.args.name.now c.in_default.not-check c.in_default.not-solve c.in_default.not-show
     c.in_default.not-describe c.in_default.not-play c.in_default.not-present
-    c.in_default.not-catalogue c.in_default.not-desk)
+    c.in_default.not-catalogue c.in_default.not-desk c.in_default.not-infinite)
 
 pub returns-in_default-clause-fault : goal.returns-in_default-clause-fault
 returns-in_default-clause-fault c = λ _.
@@ -97,4 +98,4 @@ returns-in_default-clause-fault c = λ _.
     (sym (unnamed c.args.name.now c.in_default.not-check c.in_default.not-solve
     c.in_default.not-show c.in_default.not-describe c.in_default.not-play
     c.in_default.not-present c.in_default.not-catalogue
-    c.in_default.not-desk)) refl
+    c.in_default.not-desk c.in_default.not-infinite)) refl

@@ -1,5 +1,5 @@
 use Rattle.std.proofs.Common.{refl}
-use Rattle.command_line.specs.Program.{catalogue, check, describe, desk, misere, play, present, show, solve}
+use Rattle.command_line.specs.Program.{catalogue, check, describe, desk, infinite, misere, play, present, show, solve}
 use Rattle.command_line.proofs.commands.program_command.Goals as goal
 
 pub returns : goal.returns
@@ -12,4 +12,5 @@ returns c =
     let five = c.with-program-5.ensures _ play four c.play_command.ensures refl in
     let six = c.with-program-6.ensures _ present five c.present_command.ensures refl in
     let seven = c.with-program-7.ensures _ catalogue six c.catalogue_command.ensures refl in
-    c.with.ensures _ desk seven c.desk_command.ensures refl
+    let eight = c.with-program-8.ensures _ desk seven c.desk_command.ensures refl in
+    c.with.ensures _ infinite eight c.infinite_command.ensures refl

@@ -1,0 +1,84 @@
+-- The bytes that are read of a certificate decide as all of its bytes do.
+use Rattle.std.proofs.Common.{◌∙◌, ◌≤◌, ◌<◌, ap, sym, subst, ℕ, Bool, false, List, Result, Ok, Err, Vec, arith, length}
+use Rattle.std.proofs.lemmas.List.{length-take, take_all}
+use native.Mathlib.Decide.{dec_lt}
+use Rattle.tracked_claims.specs.Fields.{Fields}
+use Rattle.tracked_text.specs.Said.{Said}
+use Rattle.tracked_text.specs.Spelling.{Spells}
+use Rattle.check_command.specs.Checks.{IsFrontOf}
+use Rattle.infinite_answers.specs.Answers.{IsTrueOf, Why, Text, Law, Order, Outcome, Limit, Memory, Part, Idle, Undecided, Ray}
+use Rattle.infinite_answers.specs.Kept.{Kept}
+use Rattle.infinite_command.specs.Checks.{ChecksInfinite, FindsInfinite, JudgesInfinite, TellsFound}
+use Rattle.infinite_command.specs.Shown.{ShowsFound, ShowsInfinite}
+use Rattle.infinite_command.specs.Told.{IsRefusalText, Tells, infinite_line}
+use Rattle.infinite_command.specs.Told.Tells.{Yes, No}
+
+-- long bytes spell nothing
+no_long : (bytes : List ℕ) (c : Said) → 4194304 < length bytes → Spells bytes c → ⊥
+no_long bytes c long spells = let short : length bytes ≤ 4194304 = spells.short in
+    omega (arith, long, short)
+
+-- a refusal of long bytes that has a text is true of longer ones
+true_of_longer : (v bytes text : List ℕ) (why : Why) → 4194304 < length v → length v ≤ length bytes
+    → IsTrueOf v why → IsRefusalText why text → IsTrueOf bytes why
+true_of_longer v bytes text Text long more h told =
+    λ c spells. no_long bytes c (omega (arith, long, more)) spells
+true_of_longer v bytes text Law long more h told = absurd (no_long v h.0 long h.1)
+true_of_longer v bytes text Order long more h told = absurd (no_long v h.0 long h.1)
+true_of_longer v bytes text (Outcome code X) long more h told = absurd (no_long v h.0 long h.1)
+true_of_longer v bytes text Limit long more h told = absurd (no_long v h.0 long h.1)
+true_of_longer v bytes text Memory long more h told = absurd told
+true_of_longer v bytes text (Part n) long more h told = absurd (no_long v h.0 long h.1)
+true_of_longer v bytes text Idle long more h told = absurd (no_long v h.0 long h.1)
+true_of_longer v bytes text Undecided long more h told = absurd (no_long v h.0 long h.1)
+true_of_longer v bytes text Ray long more h told = absurd (no_long v h.0 long h.1)
+
+tells_longer : (v bytes text : List ℕ) (accepted : Bool) → 4194304 < length v
+    → length v ≤ length bytes → Tells v text accepted → Tells bytes text accepted
+tells_longer v bytes text accepted long more (Yes c spells shown is good) =
+    absurd (no_long v c long spells)
+tells_longer v bytes text accepted long more (No why holds told bad) =
+    No why (true_of_longer v bytes text why long more holds told) told bad
+
+judges_longer : {A : Type 0} (v bytes : List ℕ) (q : Result Kept (Vec ℕ A)) → 4194304 < length v
+    → length v ≤ length bytes → JudgesInfinite v q → JudgesInfinite bytes q
+judges_longer v bytes (Ok k) long more (c, spells, kept, shown) = absurd (no_long v c long spells)
+judges_longer v bytes (Err text) long more told = tells_longer v bytes text.items false long more told
+
+-- what is found by the front is found by all
+pub finds_all : {A : Type 0} (Are : List ℕ → Type 0) (front : List ℕ) (q : Result Kept (Vec ℕ A))
+    → IsFrontOf Are front → JudgesInfinite front q → FindsInfinite Are q
+finds_all Are front q (bytes, are, is) judged = elim (dec_lt 4194305 (length bytes)) [
+  | yes long ↦
+      let cut = ap length is ∙ length-take 4194305 bytes in
+      (bytes, are, judges_longer front bytes q (grind (arith, cut, long)) (grind (arith, cut, long)) judged)
+  | no short ↦ (
+    bytes,
+    are,
+    subst (λ b. JudgesInfinite b q) (is ∙ take_all 4194305 bytes (omega (arith, short)))
+        judged,
+  )
+]
+
+-- what is said of what is found is said of the bytes
+pub checks_found : {A : Type 0} (Are : List ℕ → Type 0) (q : Result Kept (Vec ℕ A)) (text : List ℕ)
+    (succeeds : Bool) → FindsInfinite Are q → TellsFound q text succeeds
+    → ChecksInfinite Are text succeeds
+checks_found Are (Ok k) text succeeds (bytes, are, (c, spells, kept, shown)) (line, well) =
+    (bytes, are, Yes c spells shown (line ∙ ap (λ (f : Fields). infinite_line f.code f.heaps) kept.claim) well)
+checks_found Are (Err said) text succeeds (bytes, are, told) (same, ill) = (
+  bytes,
+  are,
+  subst (λ b. Tells bytes text b) (sym ill)
+      (subst (λ t. Tells bytes t false) (sym same) told),
+)
+
+-- the lines of what is found are those of the bytes
+pub shows_found : {A : Type 0} (Are : List ℕ → Type 0) (q : Result Kept (Vec ℕ A)) (text : List ℕ)
+    (succeeds : Bool) → FindsInfinite Are q → ShowsFound q text succeeds
+    → ShowsInfinite Are text succeeds
+shows_found Are (Ok k) text succeeds found (line, well) =
+    subst (λ b. ShowsInfinite Are text b) (sym well) (k, found, line)
+shows_found Are (Err said) text succeeds (bytes, are, told) (same, ill) =
+    subst (λ b. ShowsInfinite Are text b) (sym ill)
+    (bytes, are, subst (λ t. Tells bytes t false) (sym same) told)

@@ -1,0 +1,5 @@
+mod LeftOut
+mod Given
+mod Found
+mod Answered
+mod Sizes

@@ -1,0 +1,5 @@
+pub mod Told
+pub mod Checks
+pub mod Plays
+pub mod Many
+pub mod Shown
