@@ -19,7 +19,7 @@ from script import root
 
 PARTS = ("src", "specs", "proofs")
 STATIC = ("misere_library", "solve_library")
-PROGRAMS = ("misere", "misere_check", "misere_infinite", *STATIC)
+PROGRAMS = ("misere", "misere_check", *STATIC)
 
 
 def folder_of(name: str) -> pathlib.Path:

@@ -1,3 +1,0 @@
-mod LeftOut
-mod Told
-mod Whole
