@@ -1,16 +1,15 @@
 -- Reads of the pieces of flat lists, and what a certificate's flat lists make of its claim.
-use Rattle.std.proofs.Common.{◌≡◌, ℕ, zero, suc, ◌+◌, ◌*◌, ◌<◌, nat_lt, ◌&&◌, if◌then◌else◌, ℤ, pos, Bool, true, false, List, [], ◌∷◌, map, length, take, drop, slice_index_or, refl, sym, ◌∙◌, ap, arith, Contains}
-use Rattle.std.proofs.lemmas.Bool.{ltb-true, ltb-false, le-ltb, false≢true}
+use Rattle.std.proofs.Common.{◌≡◌, ℕ, zero, suc, ◌+◌, ◌*◌, ◌<◌, nat_lt, ◌&&◌, pos, Bool, true, false, List, [], ◌∷◌, map, length, take, drop, slice_index_or, refl, sym, ◌∙◌, ap, arith, Contains}
+use Rattle.std.proofs.lemmas.Bool.{ltb-true, ltb-false, false≢true}
 use Rattle.std.proofs.lemmas.List.{get_or-drop, get_or-take, length-take}
 use Rattle.std.proofs.lemmas.List.Elements.{Contains-get_or}
 use Rattle.std.proofs.Math.Seq.{drop-nil}
 use Rattle.std.proofs.Math.ListN.{get_or-eq_default}
 use Rattle.counted_claims.specs.Counted.{weighed}
-use Rattle.counted_claims.specs.Folds.{Fold, weights_on, folded, in_plane}
-use Rattle.counted_claims.specs.Tracked.{track_of, tracked_claim_of, place_number, all_place_count}
-use Rattle.tracked_claims.specs.Fields.{Fields, certificate_in, pieces, tracks_in}
-use Rattle.tracked_claims.specs.Reads.{claim_in, is_inside}
-use Rattle.tracked_places.specs.Points.{zeros, cell_in}
+use Rattle.counted_claims.specs.Folds.{Fold, weights_on}
+use Rattle.counted_claims.specs.Tracked.{track_of}
+use Rattle.tracked_claims.specs.Fields.{pieces, tracks_in}
+use Rattle.tracked_places.specs.Points.{zeros}
 
 pub length-pieces : {X : Type 0} (w n : ℕ) (xs : List X) → length (pieces w n xs) ≡ n
 length-pieces w zero xs = refl
@@ -88,38 +87,3 @@ so_wide heaps (a ∷ fs) downs ups =
 pub both_true : (a b : Bool) → (a && b) ≡ true → (a ≡ true) × (b ≡ true)
 both_true true b h = (refl, h)
 both_true false b h = absurd (false≢true h)
-
--- no place that isn't below their number is in the region
-pub beyond : (w n : ℕ) (xs : List Bool) (f : ℕ)
-    → slice_index_or (slice_index_or (pieces w n xs) f []) w false ≡ false
-beyond w n xs f = by_test (nat_lt f n) refl where
-  by_test : (b : Bool) → nat_lt f n ≡ b
-      → slice_index_or (slice_index_or (pieces w n xs) f []) w false ≡ false
-  by_test true e =
-      cell_is w n xs f w (ltb-true f n e)
-      ∙ ap (λ b. b && slice_index_or xs (f * w + w) false) (le-ltb w w (omega arith))
-  by_test false e =
-      ap (λ l. slice_index_or l w false)
-      (get_or-eq_default (pieces w n xs) []
-      (omega (arith, ltb-false f n e, length-pieces w n xs)))
-
--- The region of a claim at counts, by the number of their cell.
-pub region_at : (t : Fields) (f : ℕ) (v : List ℤ)
-    → is_inside t f (cell_in t.folds v) ≡ (claim_in t).region f v
-region_at t f v =
-    sym (ap (λ fs. in_plane fs v && (tracked_claim_of (certificate_in t)).table f (folded fs v))
-    (folds_are (length t.heaps) t.folds t.downs t.ups) ∙ by_plane (in_plane t.folds v) refl) where
-      by_plane : (b : Bool) → in_plane t.folds v ≡ b
-          → (in_plane t.folds v && (tracked_claim_of (certificate_in t)).table f (folded t.folds v))
-          ≡ is_inside t f (cell_in t.folds v)
-      by_plane true e =
-          ap (λ b. b && (tracked_claim_of (certificate_in t)).table f (folded t.folds v)) e
-          ∙ (ap (λ fs. is_inside t f (place_number fs (folded t.folds v)))
-          (lines_are (length t.heaps) t.folds t.downs t.ups)
-          ∙ ap (λ b. is_inside t f
-          (if b then place_number t.folds (folded t.folds v) else all_place_count t.folds)) (sym e))
-      by_plane false e =
-          ap (λ b. b && (tracked_claim_of (certificate_in t)).table f (folded t.folds v)) e
-          ∙ (sym (beyond (all_place_count t.folds) t.order t.region f)
-          ∙ ap (λ b. is_inside t f
-          (if b then place_number t.folds (folded t.folds v) else all_place_count t.folds)) (sym e))

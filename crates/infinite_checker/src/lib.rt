@@ -2,7 +2,6 @@
 #![tactic(auto)]
 
 mod checking;
-mod counting;
 mod joining;
 mod judging;
 mod lawful;
@@ -10,7 +9,6 @@ mod laws;
 mod numbering;
 mod predicting;
 mod rays;
-mod regions;
 #[cfg(test)]
 mod tests;
 

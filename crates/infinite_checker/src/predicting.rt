@@ -18,6 +18,7 @@ use infinite_answers::InfiniteRefusal;
 use tracked_claims::Tracked;
 use tracked_moves::{Moves, MovesFault, moves_of};
 use tracked_places::{Axes, Points, PointsFault, points_of};
+use tracked_rule::failing_position;
 
 /// The most points, and the most places.
 const MOST_POINTS: usize = 65536;
@@ -91,6 +92,23 @@ fn joined<A: SmallAllocator + Copy>(
     }
 }
 
+/// Why the rule wasn't seen to hold: it fails at a position, which is looked for, first at that of the heaps
+/// of these numbers; or none is found.
+fn refuted<A: SmallAllocator + Copy>(alloc: A, t: &Tracked<A>, word: &[u32]) -> InfiniteRefusal<A>
+    requires { Monoid t.now.order (claim_in t.now).times }
+    ensures { (words : List (ℕ × ℕ)) → FitsIn t.now words (refused result) }
+{
+    let moves = match listed(alloc, t) {
+        Ok(moves) => moves,
+        Err(refusal) => return refusal,
+    };
+    match failing_position(alloc, t, &moves, word) {
+        Ok(Some(position)) => InfiniteRefusal::Outcome(t.code, position),
+        Ok(None) => InfiniteRefusal::Undecided,
+        Err(Memory) => InfiniteRefusal::Memory,
+    }
+}
+
 /// States that pass the test.
 fn kept<A: SmallAllocator + Copy>(
     alloc: A,
@@ -98,15 +116,17 @@ fn kept<A: SmallAllocator + Copy>(
     tables: &Tables<A>,
     limit: u32,
 ) -> Result<KeptPairs<A>, InfiniteRefusal<A>>
+    requires { Monoid t.now.order (claim_in t.now).times }
     ensures kept { IfOk result (λ k. AreTestedIn tables.now k) }
     ensures refused { IfErr result (λ r. (words : List (ℕ × ℕ)) → FitsIn t.now words (refused r)) }
 {
-    let _ = t;
     match tested_states(alloc, tables, limit as usize, MOST_TURNS) {
         Ok(kept) => Ok(kept),
         Err(Untested::Limit) => Err(InfiniteRefusal::Limit),
         Err(Untested::Memory(_)) => Err(InfiniteRefusal::Memory),
-        Err(_) => Err(InfiniteRefusal::Undecided),
+        Err(Untested::Rule(word)) => Err(refuted(alloc, t, &word)),
+        Err(Untested::Beside(word)) => Err(refuted(alloc, t, &word)),
+        Err(Untested::Undecided) => Err(refuted(alloc, t, &[])),
     }
 }
 

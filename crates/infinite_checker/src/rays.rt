@@ -6,11 +6,10 @@ ghost use Rattle.counted_claims.specs.Counted.{element, counted};
 ghost use Rattle.tracked_claims.specs.Reads.{claim_in};
 ghost use Rattle.infinite_checker.specs.Ray.{IsRayIn};
 
-use crate::counting::{counted, element_of};
-use crate::regions::is_p_at;
 use allocation::Memory;
 use std::alloc::Allocator;
 use tracked_claims::{Fold, Tracked};
+use tracked_rule::{counted, element_of, is_p_at};
 
 /// Two counts of a track, and those of the others.
 #[derive(Clone, Copy)]

@@ -2,8 +2,8 @@
 use crate::check_infinite;
 use std::alloc::Global;
 
-/// Of 0.354 to heap 5, as a search by other programs found it.
-const RIGHT: &str = "mqi 1\n\
+/// Of 0.354 to heap 5, as a search by other programs found it: what stands before the regions.
+const HEAD: &str = "mqi 1\n\
              code 0.354\n\
              heaps 5\n\
              order 12\n\
@@ -14,11 +14,10 @@ const RIGHT: &str = "mqi 1\n\
              row 2 5 2 6 7 5 6 7 10 11 10 11\n\
              row 3 4 6 8 9 7 10 11 8 9 10 11\n\
              row 4 3 7 9 8 6 11 10 9 8 11 10\n\
-             region 1 8000\n\
-             region 2 0008\n\
-             region 3 4020\n\
-             region 6 0020\n\
-             region 7 0010\n\
+             ";
+
+/// The regions of 7 to 11, and what stands behind them.
+const REST: &str = "region 7 0010\n\
              region 8 50aa\n\
              region 9 2000\n\
              region 10 502a\n\
@@ -29,16 +28,30 @@ const RIGHT: &str = "mqi 1\n\
              end\n\
              ";
 
-/// The number of the refusal of a text, or 0.
-fn answer(alloc: Global, text: &str) -> u8 {
+/// The number of the refusal of the text with these regions of 1, 3 and 6, or 0; 255 for want of memory.
+fn answer(alloc: Global, first: &str, third: &str, sixth: &str) -> u8 {
+    let (head, rest) = (HEAD, REST);
+    let Ok(text) = format!(in alloc;
+        "{head}region 1 {first}\nregion 2 0008\nregion 3 {third}\nregion 6 {sixth}\n{rest}"
+    ) else {
+        return 255;
+    };
     match check_infinite(alloc, text.as_bytes(), 100000) {
         Ok(_) => 0,
         Err(refusal) => refusal.number(),
     }
 }
 
+/// A digit is changed as in a wrong text that other programs refused: by a search through all plays 2 + 3 is N,
+/// where the last one says P.
 #[test]
 fn judges_0_354(rt: HostRuntime) {
     let alloc = rt.alloc();
-    assert_eq!(rt; answer(alloc, RIGHT), 0);
+    let rows = [
+        ("right", "8000", "4020", "0020", 0),
+        ("P at 2 + 3", "8000", "4020", "0024", 7),
+    ];
+    for (name, first, third, sixth, wanted) in rows {
+        assert_eq!(rt; answer(alloc, first, third, sixth), wanted, "{name}");
+    }
 }

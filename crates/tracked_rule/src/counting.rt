@@ -8,7 +8,7 @@ use std::alloc::Allocator;
 use tracked_claims::Tracked;
 
 /// The product of the heaps' elements.
-pub(crate) fn element_of<A: Allocator>(t: &Tracked<A>, heaps: &[u16]) -> u16
+pub fn element_of<A: Allocator>(t: &Tracked<A>, heaps: &[u16]) -> u16
     ensures { result ≡ element (claim_in t.now) heaps.now }
 {
     let mut product = 0;
@@ -33,7 +33,7 @@ fn weighed<A: Allocator>(t: &Tracked<A>, j: usize, heaps: &[u16]) -> Option<i64>
 
 /// What is counted of the heaps: of each track the downs and the ups. `None` if sums grow too large.
 #[tactic(auto, using(crate::proofs::Counts::one_more))]
-pub(crate) fn counted<A: Allocator, B: Allocator>(
+pub fn counted<A: Allocator, B: Allocator>(
     alloc: B,
     t: &Tracked<A>,
     heaps: &[u16],

@@ -1,0 +1,14 @@
+use Rattle.std.proofs.Common.{sym, ap, subst}
+use Rattle.tracked_claims.specs.Fields.{Fields}
+use Rattle.tracked_claims.specs.Reads.{claim_in}
+use Rattle.infinite_answers.specs.Shown.{RuleFails}
+use Rattle.infinite_checker.proofs.predicting.refuted.Goals as goal
+
+pub returns-in-Ok-Some : goal.returns-in-Ok-Some
+returns-in-Ok-Some g c = λ words.
+    let e = ap (λ (f : Fields). f.code) c.t.view_is in (
+      e,
+      c.in-Ok-Some.ensures.position,
+      subst (λ code. RuleFails code (claim_in c.args.t.now) c.in-Ok-Some.position) (sym e)
+          c.in-Ok-Some.ensures.fails,
+    )

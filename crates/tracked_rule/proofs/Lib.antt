@@ -1,0 +1,5 @@
+mod Below
+mod Cells
+mod Counts
+mod Looked
+mod Moved
