@@ -1,4 +1,4 @@
-//! ElementLists of items, linked through one memory.
+//! Lists of items, linked through one memory.
 use crate::cells::{index, put_index};
 use crate::work::Halt;
 use std::alloc::Allocator;

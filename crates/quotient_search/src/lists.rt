@@ -1,9 +1,9 @@
-//! ElementLists of elements, one after another in one memory.
+//! Lists of elements, one after another in one memory.
 use crate::cells::{WORD_BITS, index, small};
 use crate::work::Halt;
 use std::alloc::Allocator;
 
-/// ElementLists, which have numbers from 0 on.
+/// Lists of elements, with numbers from 0 on.
 #[derive(Drop)]
 pub struct ElementLists<A: Allocator> {
     ends: Vec<usize, A>,

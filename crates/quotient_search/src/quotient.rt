@@ -99,7 +99,7 @@ impl<A: Allocator> HeapQuotient<A> {
 
     /// The product.
     #[inline]
-    pub(crate) fn times(&self, x: usize, y: usize) -> usize {
+    pub fn times(&self, x: usize, y: usize) -> usize {
         at(&self.products, x.wrapping_mul(self.order).wrapping_add(y))
     }
 
@@ -115,7 +115,7 @@ impl<A: Allocator> HeapQuotient<A> {
     }
 
     /// The element of the heap n.
-    pub(crate) fn heap(&self, n: usize) -> usize {
+    pub fn heap(&self, n: usize) -> usize {
         at(&self.heaps, n.wrapping_sub(1))
     }
 

@@ -94,7 +94,7 @@ fn contexts_of_try<A: Allocator + Copy>(
 
 /// What a try came to.
 #[derive(Clone, Copy, PartialEq, Eq)]
-enum Tried {
+pub enum Tried {
     /// There was nothing to try.
     Nothing,
     /// It reached a bound, or the lightest position at which the rule fails isn't heavier than
@@ -170,7 +170,7 @@ fn within_share<A: Allocator + Copy>(
 }
 
 /// Takes the first try that comes to something better.
-fn first_better<A: Allocator + Copy>(
+pub fn first_better<A: Allocator + Copy>(
     means: &mut Means<'_, A>,
     state: &mut State<A>,
 ) -> Result<Tried, Halt> {

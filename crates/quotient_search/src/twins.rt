@@ -4,7 +4,7 @@ use crate::lists::ElementLists;
 use crate::work::Halt;
 use std::alloc::Allocator;
 
-/// ElementLists of values, each with a mark by which it is found.
+/// Lists of elements, each with a mark by which it is found.
 #[derive(Drop)]
 pub struct Twins<A: Allocator> {
     marks: Vec<u64, A>,
