@@ -3,7 +3,7 @@ use Rattle.std.proofs.Common.{◌≡◌, refl, ℕ, Bool, Bor, false, List, Opti
 use Rattle.std.specs.Prelude.{option_map}
 use Rattle.commands.specs.Causes.{notes}
 use Rattle.commands.specs.Responses.{RespondsWith, Says}
-use Rattle.describe_command.specs.Described.{Describes}
+use Rattle.describe_command.specs.Described.{Describes, form_of}
 use Rattle.describe_command.specs.Described.Describes.{Quotient, NoQuotient}
 use Rattle.requests.specs.declared.plans.Output.{Output}
 use Rattle.requests.specs.declared.plans.Output.TheVariants.{Description, Latex, Json, Relations, Singular, Gap}
@@ -20,7 +20,7 @@ option_none (Some line) is = cc
 silent_description : (Are : List ℕ → Type 0) (file : Option (List ℕ)) (output : Output)
     (basis : Bool) (limit : ℕ) (text : List ℕ) (succeeds : Bool) (told : Option (List ℕ))
     → notes (Some (Describe file output basis limit)) ≡ false
-    → Describes Are limit output text succeeds told → told ≡ None
+    → Describes Are limit (form_of basis) output text succeeds told → told ≡ None
 silent_description Are file output basis limit text succeeds told e (NoQuotient checked ill is) = is
 silent_description Are file Description basis limit text succeeds told e (Quotient c f h) = h.1
 silent_description Are file Latex basis limit text succeeds told e (Quotient c f h) = h.1

@@ -4,7 +4,7 @@ use Rattle.std.specs.Prelude.{◌≡◌, ℕ, Bool, List, Option, None}
 use Rattle.catalogue_command.specs.Tasks.{KeepsCatalogue, catalogue_written}
 use Rattle.check_command.specs.Checks.{AreGiven, Checks}
 use Rattle.command_results.specs.Lines.{AreLinesOf}
-use Rattle.describe_command.specs.Described.{Describes}
+use Rattle.describe_command.specs.Described.{Describes, form_of}
 use Rattle.infinite_command.specs.Checks.{ChecksInfinite}
 use Rattle.infinite_command.specs.Many.{PlaysInfiniteLines}
 use Rattle.infinite_command.specs.Plays.{PlaysInfinite}
@@ -55,7 +55,7 @@ Says input before after (PlayInfiniteLines file limit) text succeeds =
 abbrev pub RespondsWith : Option (List ℕ) → Option (List ℕ → Option (List ℕ))
     → Option (List ℕ → Option (List ℕ)) → Request → List ℕ → Bool → Option (List ℕ) → Type 0
 RespondsWith input before after (Describe file output basis limit) text succeeds told =
-    Describes (AreGiven input before file) limit output text succeeds told
+    Describes (AreGiven input before file) limit (form_of basis) output text succeeds told
 RespondsWith input before after request text succeeds told =
     Says input before after request text succeeds × (told ≡ None)
 

@@ -8,12 +8,19 @@ use Rattle.descriptions.specs.declared.presenting.PresentBound.{PresentBound}
 use Rattle.descriptions.specs.declared.presenting.PresentBound.TheVariants as beyond
 use Rattle.descriptions.specs.declared.systems.System.{System}
 use Rattle.descriptions.specs.declared.systems.System.TheVariants as system
+use Rattle.relations.specs.declared.finding.Form.{Form}
+use Rattle.relations.specs.declared.finding.Form.TheVariants.{Short, Basis}
 use Rattle.relations.specs.declared.text.Notation.{Notation}
 use Rattle.relations.specs.declared.text.Notation.TheVariants as written
 use Rattle.relations.specs.declared.fault.Undescribed.{Undescribed}
 use Rattle.relations.specs.declared.fault.Undescribed.TheVariants as bound
 use Rattle.requests.specs.declared.plans.Output.{Output}
 use Rattle.requests.specs.declared.plans.Output.TheVariants.{Description, Latex, Json, Relations, Singular, Gap}
+
+-- the form that is asked for: the basis, or a short list
+abbrev pub form_of : Bool → Form
+form_of true = Basis
+form_of false = Short
 
 -- the line of each bound within which a quotient is not described
 abbrev pub bound_line : Undescribed → List ℕ
@@ -44,45 +51,45 @@ IsRelationsText c text note = (word : List ℕ) × (above : Option PresentBound)
     × IsRelationsWord c word above × (text ≡ word ++ codes "\n") × (note ≡ option_map note_line above)
 
 -- the text describes the quotient, plain, for LaTeX or in JSON, or says that it isn't described
-abbrev pub DescribesIn : Notation → Certificate → List ℕ → Bool → Type 0
-DescribesIn notation c text succeeds =
-    (IsDescription notation c text × (succeeds ≡ true)) ⊎ (IsBoundLine text × (succeeds ≡ false))
+abbrev pub DescribesIn : Notation → Form → Certificate → List ℕ → Bool → Type 0
+DescribesIn notation form c text succeeds =
+    (IsDescription notation form c text × (succeeds ≡ true)) ⊎ (IsBoundLine text × (succeeds ≡ false))
 
 -- the text is the ideal of the quotient's relations, for a system, or says that it isn't described
-abbrev pub DescribesFor : System → Certificate → List ℕ → Bool → Type 0
-DescribesFor for c text succeeds =
-    (IsIdealText for c text × (succeeds ≡ true)) ⊎ (IsBoundLine text × (succeeds ≡ false))
+abbrev pub DescribesFor : System → Form → Certificate → List ℕ → Bool → Type 0
+DescribesFor for form c text succeeds =
+    (IsIdealText for form c text × (succeeds ≡ true)) ⊎ (IsBoundLine text × (succeeds ≡ false))
 
 -- The text describes the quotient, or is its relations as one word or as an ideal, or says that it
 -- isn't described. Beside relations that `present` refuses there is a note, and else none.
-abbrev pub DescribesQuotient : Certificate → Output → List ℕ → Bool → Option (List ℕ) → Type 0
-DescribesQuotient c Description text succeeds note =
-    DescribesIn written.Plain c text succeeds × (note ≡ None)
-DescribesQuotient c Latex text succeeds note =
-    DescribesIn written.Latex c text succeeds × (note ≡ None)
-DescribesQuotient c Json text succeeds note =
-    DescribesIn written.Json c text succeeds × (note ≡ None)
-DescribesQuotient c Singular text succeeds note =
-    DescribesFor system.Singular c text succeeds × (note ≡ None)
-DescribesQuotient c Gap text succeeds note =
-    DescribesFor system.Gap c text succeeds × (note ≡ None)
-DescribesQuotient c Relations text succeeds note =
+abbrev pub DescribesQuotient : Certificate → Form → Output → List ℕ → Bool → Option (List ℕ) → Type 0
+DescribesQuotient c form Description text succeeds note =
+    DescribesIn written.Plain form c text succeeds × (note ≡ None)
+DescribesQuotient c form Latex text succeeds note =
+    DescribesIn written.Latex form c text succeeds × (note ≡ None)
+DescribesQuotient c form Json text succeeds note =
+    DescribesIn written.Json form c text succeeds × (note ≡ None)
+DescribesQuotient c form Singular text succeeds note =
+    DescribesFor system.Singular form c text succeeds × (note ≡ None)
+DescribesQuotient c form Gap text succeeds note =
+    DescribesFor system.Gap form c text succeeds × (note ≡ None)
+DescribesQuotient c form Relations text succeeds note =
     (IsRelationsText c text note × (succeeds ≡ true))
     ⊎ (IsBoundLine text × (succeeds ≡ false) × (note ≡ None))
 
 -- the same of the quotient that was found, and the text of a no where none was
-abbrev pub DescribesFound : {A : Type 0} → Result Certificate (Vec ℕ A) → Output → List ℕ → Bool
-    → Option (List ℕ) → Type 0
-DescribesFound (Ok c) output text succeeds note = DescribesQuotient c output text succeeds note
-DescribesFound (Err said) output text succeeds note =
+abbrev pub DescribesFound : {A : Type 0} → Result Certificate (Vec ℕ A) → Form → Output → List ℕ
+    → Bool → Option (List ℕ) → Type 0
+DescribesFound (Ok c) form output text succeeds note = DescribesQuotient c form output text succeeds note
+DescribesFound (Err said) form output text succeeds note =
     (text ≡ said.items) × (succeeds ≡ false) × (note ≡ None)
 
 -- The text describes the quotient that such bytes certify under the limit, or says that it isn't
 -- described; or it is that of a true no. Beside relations that `present` refuses there is a note.
-pub data Describes (Are : List ℕ → Type 0) (limit : ℕ) (output : Output) (text : List ℕ)
-    (succeeds : Bool) (note : Option (List ℕ)) : Type 0 where
+pub data Describes (Are : List ℕ → Type 0) (limit : ℕ) (form : Form) (output : Output)
+    (text : List ℕ) (succeeds : Bool) (note : Option (List ℕ)) : Type 0 where
   Quotient : (c : Certificate) → Certifies Are limit c
-      → DescribesQuotient c output text succeeds note
-      → Describes Are limit output text succeeds note
+      → DescribesQuotient c form output text succeeds note
+      → Describes Are limit form output text succeeds note
   NoQuotient : Checks Are limit text false → succeeds ≡ false → note ≡ None
-      → Describes Are limit output text succeeds note
+      → Describes Are limit form output text succeeds note

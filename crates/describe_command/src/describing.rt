@@ -57,7 +57,7 @@ fn described(
     notation: Notation,
 ) -> Result<Noted, Memory>
     ensures { IfOk result
-        (λ n. DescribesIn notation certified.now n.said.text.items n.said.succeeds
+        (λ n. DescribesIn notation form certified.now n.said.text.items n.said.succeeds
         × (option_map (λ t. t.now) n.note ≡ None)) }
 {
     match description_text(alloc, notation, certified, form) {
@@ -74,7 +74,7 @@ fn computed(
     system: System,
 ) -> Result<Noted, Memory>
     ensures { IfOk result
-        (λ n. DescribesFor system certified.now n.said.text.items n.said.succeeds
+        (λ n. DescribesFor system form certified.now n.said.text.items n.said.succeeds
         × (option_map (λ t. t.now) n.note ≡ None)) }
 {
     match ideal_text(alloc, system, certified, form) {
@@ -120,7 +120,7 @@ fn line_of(alloc: Global, found: RelationsWord) -> Result<Noted, Memory>
 
 /// The relations of the quotient as one word for `present`, and the note where it refuses them.
 fn presented(alloc: Global, certified: &Certified, form: Form) -> Result<Noted, Memory>
-    ensures { IfOk result (λ n. DescribesQuotient certified.now Relations n.said.text.items
+    ensures { IfOk result (λ n. DescribesQuotient certified.now form Relations n.said.text.items
         n.said.succeeds (option_map (λ t. t.now) n.note)) }
 {
     match relations_word(alloc, certified, form) {
@@ -136,7 +136,7 @@ fn noted(
     form: Form,
     output: Output,
 ) -> Result<Noted, Memory>
-    ensures { IfOk result (λ n. DescribesFound quotient output n.said.text.items n.said.succeeds
+    ensures { IfOk result (λ n. DescribesFound quotient form output n.said.text.items n.said.succeeds
         (option_map (λ t. t.now) n.note)) }
 {
     match quotient {
@@ -169,7 +169,7 @@ pub fn describe<'a, F: Folder, S: Source>(
 ) -> Result<Noted, Stop<'a>>
     ensures describes { let named = option_map (λ f. f.now) file.entry in
         IfOk result (λ n. Describes (AreGiven (S.left input.old) (F.files folder.old) named) limit
-        output n.said.text.items n.said.succeeds (option_map (λ t. t.now) n.note)) }
+        form output n.said.text.items n.said.succeeds (option_map (λ t. t.now) n.note)) }
     ensures kept { F.files folder.new ≡ F.files folder.old }
     ensures stops { IfErr result (IsGivenCause (option_map (λ f. f.now) file.entry)
         (failed (S.failures input.old) (F.failed_reads folder.old))

@@ -1,12 +1,13 @@
 -- The lines of a description, put together.
 use Rattle.std.proofs.Common.{◌≡◌, ℕ, List, ◌++◌, length, ap, ap₂, ◌∙◌, subst}
 use Rattle.misere_theory.specs.Certificates.{Certificate}
+use Rattle.relations.specs.declared.finding.Form.{Form}
 use Rattle.relations.specs.declared.text.Notation.{Notation}
 use Rattle.descriptions.specs.declared.finding.Findings.{Findings}
 use Rattle.descriptions.specs.Described.{AreFindings, AreRows, IsDescription}
 use Rattle.descriptions.specs.Lines.{front_lines, list_lines, tail_line}
 
-module _ (notation : Notation) (c : Certificate) (f : Findings) where
+module _ (notation : Notation) (form : Form) (c : Certificate) (f : Findings) where
   abbrev pub front_of : ℕ → List ℕ
   front_of n =
       front_lines notation c f.description.relations.items f.description.words.items
@@ -17,14 +18,14 @@ module _ (notation : Notation) (c : Certificate) (f : Findings) where
       list_lines notation f.description.words.items f.units.items f.idempotents.items
       f.kernel.items n
 
-  pub assembled : (n : ℕ) (front lists rows tail text : List ℕ) → AreFindings c f
+  pub assembled : (n : ℕ) (front lists rows tail text : List ℕ) → AreFindings c form f
       → n ≡ length f.description.elements.items
       → front ≡ front_of n
       → lists ≡ lists_of n
       → AreRows notation c n f.description.words.items rows
       → tail ≡ tail_line notation c
       → text ≡ ((front ++ lists) ++ rows) ++ tail
-      → IsDescription notation c text
+      → IsDescription notation form c text
   assembled n front lists rows tail text are n_is front_is lists_are rows_are tail_is text_is =
       let m = length f.description.elements.items in
       let words = f.description.words.items in

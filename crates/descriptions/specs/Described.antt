@@ -11,6 +11,8 @@ use Rattle.presentations.specs.Tables.{IsTableOf}
 use Rattle.monoid_table.specs.Grids.{Grid}
 use Rattle.presentations.specs.Text.{SpellsPresentation}
 use Rattle.relations.specs.Presented.{ArePresentation, AreNamed, IsListing, LeadTo}
+use Rattle.relations.specs.Bases.{AreOfForm}
+use Rattle.relations.specs.declared.finding.Form.{Form}
 use Rattle.relations.specs.declared.text.Notation.{Notation}
 use Rattle.relations.specs.Printed.{words_text}
 use Rattle.relations.specs.declared.text.Notation.TheVariants.{Plain, Latex, Json}
@@ -37,12 +39,13 @@ TellsTame c None = (n : ℕ) → IsTame c n → ⊥
 
 -- The relations present the certificate's monoid, by the elements of the letters a, b, ..; each
 -- element is the value of its word; each relation leads from a word that is none of these to one of
--- them; and each element stands in the list once.
-pub record Describes (c : Certificate) (elements : List ℕ) (relations : List Relation)
+-- them; the relations are of the form that is asked for; and each element is in the list once.
+pub record Describes (c : Certificate) (form : Form) (elements : List ℕ) (relations : List Relation)
     (words : List (List ℕ)) (listing : List ℕ) : Type 0 where
   pub presentation : ArePresentation (grid_of c) elements relations
   pub named : AreNamed (grid_of c) elements words
   pub lead : LeadTo words relations
+  pub formed : AreOfForm form (length elements) words relations
   pub letters : length elements ≤ LETTERS
   pub listing_is : IsListing c.order listing
 
@@ -56,12 +59,12 @@ AreRows Json c n words text =
 -- The text describes the certificate's quotient: its monoid by relations, its portion by words, how
 -- many elements there are, the first heap of each generator, the standard invariants, the words of
 -- the heaps in rows, and how they go on.
-pub record IsDescription (notation : Notation) (c : Certificate) (text : List ℕ) : Type 0 where
+pub record IsDescription (notation : Notation) (form : Form) (c : Certificate) (text : List ℕ) : Type 0 where
   pub elements : List ℕ
   pub relations : List Relation
   pub words : List (List ℕ)
   pub listing : List ℕ
-  pub describes : Describes c elements relations words listing
+  pub describes : Describes c form elements relations words listing
   pub heaps : List ℕ
   pub are_first : AllZip (IsFirstHeap c) elements heaps
   pub portion : List ℕ
@@ -82,17 +85,17 @@ pub record IsDescription (notation : Notation) (c : Certificate) (text : List �
       ++ rows ++ tail_line notation c
 
 -- The text is the ideal, for Singular or for GAP, of relations that present the certificate's monoid.
-pub record IsIdealText (system : System) (c : Certificate) (text : List ℕ) : Type 0 where
+pub record IsIdealText (system : System) (form : Form) (c : Certificate) (text : List ℕ) : Type 0 where
   pub elements : List ℕ
   pub relations : List Relation
   pub words : List (List ℕ)
   pub listing : List ℕ
-  pub describes : Describes c elements relations words listing
+  pub describes : Describes c form elements relations words listing
   pub lines : text ≡ system_text system c (length elements) relations
 
 -- all that is said of what was found
-pub record AreFindings (c : Certificate) (f : Findings) : Type 0 where
-  pub describes : Describes c f.description.elements.items f.description.relations.items
+pub record AreFindings (c : Certificate) (form : Form) (f : Findings) : Type 0 where
+  pub describes : Describes c form f.description.elements.items f.description.relations.items
       f.description.words.items f.description.listing.items
   pub words : vec_len f.description.words ≡ c.order
   pub are_first : AllZip (IsFirstHeap c) f.description.elements.items f.heaps.items

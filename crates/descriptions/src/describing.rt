@@ -163,11 +163,13 @@ fn findings_text(
     alloc: Global,
     notation: Notation,
     certified: &Certified,
+    form: Form,
     findings: &Findings,
 ) -> Result<String, Memory>
-    requires { AreFindings certified.now findings.now }
-    ensures { IfOk result (λ t. IsDescription notation certified.now (string_bytes t)) }
+    requires { AreFindings certified.now form findings.now }
+    ensures { IfOk result (λ t. IsDescription notation form certified.now (string_bytes t)) }
 {
+    let _ = form;
     let letters = findings.description.elements.len() as u8;
     let words = findings.description.words.as_slice();
     let front = front_text(alloc, notation, certified, letters, findings)?;
@@ -188,10 +190,10 @@ pub fn description_text(
     certified: &Certified,
     form: Form,
 ) -> Result<String, Undescribed>
-    ensures { IfOk result (λ t. IsDescription notation certified.now (string_bytes t)) }
+    ensures { IfOk result (λ t. IsDescription notation form certified.now (string_bytes t)) }
 {
     let findings = find(alloc, certified, form)?;
-    let text = findings_text(alloc, notation, certified, &findings)?;
+    let text = findings_text(alloc, notation, certified, form, &findings)?;
     Ok(text)
 }
 
@@ -204,7 +206,7 @@ pub fn ideal_text(
     certified: &Certified,
     form: Form,
 ) -> Result<String, Undescribed>
-    ensures { IfOk result (λ t. IsIdealText system certified.now (string_bytes t)) }
+    ensures { IfOk result (λ t. IsIdealText system form certified.now (string_bytes t)) }
 {
     let table = table_of(alloc, certified)?;
     let description = describe_table(alloc, certified, &table, form)?;

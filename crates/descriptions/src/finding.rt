@@ -80,7 +80,7 @@ pub fn describe_table(
     form: Form,
 ) -> Result<Description, Undescribed>
     requires { table.now ≡ grid_of certified.now }
-    ensures describes { IfOk result (λ d. Describes certified.now d.elements.items
+    ensures describes { IfOk result (λ d. Describes certified.now form d.elements.items
         d.relations.items d.words.items d.listing.items) }
     ensures words { IfOk result (λ d. vec_len d.words ≡ certified.now.order) }
     ensures elements { IfOk result
@@ -94,7 +94,7 @@ pub fn describe_table(
 
 /// All that is printed.
 pub fn find(alloc: Global, certified: &Certified, form: Form) -> Result<Findings, Undescribed>
-    ensures { IfOk result (AreFindings certified.now) }
+    ensures { IfOk result (AreFindings certified.now form) }
 {
     let table = table_of(alloc, certified)?;
     let description = describe_table(alloc, certified, &table, form)?;

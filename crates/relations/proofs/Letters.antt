@@ -1,7 +1,7 @@
 -- The first letters, and the vectors of words in them.
 -- A letter more adds one to an exponent, and a product of powers goes on from letter to letter.
-use Rattle.std.proofs.Common.{◌≡◌, ◌≢◌, ℕ, zero, suc, ◌+◌, ◌-◌, ◌<◌, ◌≤◌, List, [], ◌∷◌, ◌++◌, length, get_or, drop, true, false, refl, sym, ap, ap₂, ◌∙◌, inl, inr, arith, subst, get_or-set_other, get_or-set_same}
-use Rattle.std.specs.Prelude.{slice_index, slice_set, nat_lt, if◌then◌else◌, All}
+use Rattle.std.proofs.Common.{◌≡◌, ◌≢◌, ℕ, zero, suc, ◌+◌, ◌-◌, ◌<◌, ◌≤◌, List, [], ◌∷◌, length, get_or, drop, true, false, refl, sym, ap, ap₂, ◌∙◌, inl, inr, arith, subst, get_or-set_other, get_or-set_same}
+use Rattle.std.specs.Prelude.{slice_index, slice_set, nat_lt}
 use Rattle.std.proofs.lemmas.Bool.{cases_lt, cases_eq, lt-ltb, le-ltb}
 use Rattle.std.proofs.lemmas.List.{ext_get_or, get_or-map, get_or_append_left}
 use Rattle.std.proofs.Math.Seq.{drop-cons, get_or-append_seam}
@@ -9,7 +9,7 @@ use Rattle.monoid_table.specs.Laws.{power_of}
 use Rattle.presentations.specs.declared.TheConstants.{LETTERS}
 use Rattle.presentations.specs.declared.read.Relation.{Relation}
 use Rattle.presentations.specs.Vectors.{zeros, bump}
-use Rattle.presentations.specs.Words.{vector_on, occurs, letters_below, letters_of}
+use Rattle.presentations.specs.Words.{occurs, letters_below, letters_of}
 use Rattle.presentations.specs.Tables.{product_at}
 use Rattle.presentations.proofs.VectorLaws.{length-zeros, length-bump, zeros-at}
 use Rattle.relations.specs.Presented.{first_letters, vector_of}
@@ -77,12 +77,12 @@ vector-zeros n word none =
     let i_in : i < n = omega (arith, length-vector n word) in
     vector-at n word i i_in ∙ none i i_in ∙ sym (zeros-at n i))
 
-bump-at : (v : List ℕ) (i : ℕ) → i < length v → get_or (bump v i) i 0 ≡ get_or v i 0 + 1
+pub bump-at : (v : List ℕ) (i : ℕ) → i < length v → get_or (bump v i) i 0 ≡ get_or v i 0 + 1
 bump-at [] i lt = absurd (omega arith)
 bump-at (x ∷ v) zero lt = refl
 bump-at (x ∷ v) (suc i) lt = bump-at v i (omega arith)
 
-bump-other : (v : List ℕ) (i k : ℕ) → k ≢ i → get_or (bump v i) k 0 ≡ get_or v k 0
+pub bump-other : (v : List ℕ) (i k : ℕ) → k ≢ i → get_or (bump v i) k 0 ≡ get_or v k 0
 bump-other [] i k ne = refl
 bump-other (x ∷ v) zero zero ne = absurd (ne refl)
 bump-other (x ∷ v) zero (suc k) ne = refl

@@ -4,3 +4,5 @@ pub mod Letters
 pub mod Shown
 pub mod Spelling
 pub mod Among
+pub mod Each
+pub mod Bases

@@ -1,6 +1,6 @@
 -- Words that show that relations present the monoid of a table.
 -- A word with a letter more is related to the product's word, and so each vector to its element's.
-use Rattle.std.proofs.Common.{◌≡◌, ℕ, zero, suc, ◌<◌, List, [], ◌∷◌, length, get_or, refl, sym, ap, ◌∙◌, arith, subst}
+use Rattle.std.proofs.Common.{◌≡◌, ℕ, ◌<◌, List, [], length, get_or, sym, subst}
 use Rattle.std.specs.Prelude.{slice_index, slice_index_or, All}
 use Rattle.std.proofs.lemmas.List.{get_or_default}
 use Rattle.std.proofs.lemmas.List.Elements.{All-map, All-weaker}

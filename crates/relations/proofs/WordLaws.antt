@@ -1,6 +1,6 @@
 -- Every vector is related to the word of its element.
 -- By induction on the vector, one letter more at a time.
-use Rattle.std.proofs.Common.{◌≡◌, ℕ, ◌<◌, List, [], ◌∷◌, length, refl, sym, ap, ◌∙◌, arith}
+use Rattle.std.proofs.Common.{◌≡◌, ℕ, ◌<◌, List, length, refl}
 use Rattle.std.specs.Prelude.{slice_index, All}
 use Rattle.std.proofs.lemmas.List.Elements.{All-contains}
 use Rattle.misere_theory.specs.Quotients.{Monoid}

@@ -1,2 +1,3 @@
 pub mod Presented
 pub mod Printed
+pub mod Bases

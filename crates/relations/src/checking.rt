@@ -91,7 +91,7 @@ fn are_named<A: Allocator>(table: &Table<A>, elements: &[u16], words: &[Word]) -
 }
 
 /// Whether no letter stands in the word.
-fn is_empty(letters: usize, word: &Word) -> bool
+pub fn is_empty(letters: usize, word: &Word) -> bool
     requires { letters ≤ LETTERS }
     ensures { IsTrue result ↔ ((i : ℕ) → i < letters → slice_index word.now i ≡ 0) }
 {

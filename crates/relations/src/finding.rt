@@ -2,9 +2,11 @@
 //! what is checked in the end.
 ghost use Rattle.std.specs.Prelude.{◌≡◌, ◌<◌, ◌≤◌, IfOk, All, Contains, vec_len};
 ghost use Rattle.presentations.specs.declared.TheConstants.{LETTERS};
+ghost use Rattle.relations.specs.Bases.{AreOfForm};
 ghost use Rattle.relations.specs.Presented.{AreNamed, ArePresentation, IsListing, LeadTo};
 ghost use Rattle.relations.specs.Printed.{ArePrintable};
 
+use crate::basis::are_of_form;
 use crate::checking::is_shown;
 use crate::fault::Undescribed;
 use crate::generating::generators;
@@ -83,6 +85,8 @@ pub fn described<A: Allocator + Copy>(
     ensures printable { IfOk result
         (λ d. ArePrintable (vec_len d.elements) d.relations.items) }
     ensures lead { IfOk result (λ d. LeadTo d.words.items d.relations.items) }
+    ensures form { IfOk result
+        (λ d. AreOfForm form (vec_len d.elements) d.words.items d.relations.items) }
 {
     let found = generators(alloc, table, elements)?;
     let letters = found.len();
@@ -111,6 +115,9 @@ pub fn described<A: Allocator + Copy>(
         return Err(Undescribed::Unshown);
     }
     if !lead_to(words.as_slice(), relations.as_slice()) {
+        return Err(Undescribed::Unshown);
+    }
+    if !are_of_form(letters, words.as_slice(), relations.as_slice(), form) {
         return Err(Undescribed::Unshown);
     }
     Ok(Description {

@@ -1,6 +1,7 @@
 //! Relations that present the monoid of a table: rewriting by them, and a check that they do.
 #![tactic(auto)]
 
+mod basis;
 mod checking;
 mod fault;
 mod finding;

@@ -50,7 +50,7 @@ pub fn is_listing(order: u16, listing: &[u16]) -> bool
 }
 
 /// Whether the word is in the list.
-fn has_word(words: &[Word], word: &Word) -> bool
+pub fn has_word(words: &[Word], word: &Word) -> bool
     ensures { IsTrue result ↔ Contains words.now word.now }
 {
     for other in words {

@@ -1,6 +1,7 @@
 //! Words rewritten by rules: relations used from their left word to their right one.
 ghost use Rattle.std.specs.Prelude.{◌≡◌, ◌<◌, ◌≤◌, ◌↔◌, ◌⊎◌, ℕ, IsTrue, IfSome, IfOk, All, length, slice_index, vec_len};
 ghost use Rattle.presentations.specs.declared.TheConstants.{LETTERS};
+ghost use Rattle.relations.specs.Bases.{Precedes};
 ghost use Rattle.relations.specs.Presented.{AreRelatedWords, IsRewritten};
 
 use allocation::Memory;
@@ -68,8 +69,9 @@ pub fn is_same(letters: usize, v: &Word, w: &Word) -> bool
 
 /// Whether the first word comes before the second one: by fewer letters in all, and of as many, by
 /// more of the first letter of which one has more.
-fn comes_before(letters: usize, v: &Word, w: &Word) -> bool
+pub fn comes_before(letters: usize, v: &Word, w: &Word) -> bool
     requires { letters ≤ LETTERS }
+    ensures { IsTrue result → Precedes letters v.now w.now }
 {
     let mut less = 0u32;
     let mut more = 0u32;

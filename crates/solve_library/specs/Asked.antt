@@ -6,8 +6,9 @@ use Rattle.misere_theory.specs.Certificates.{Certificate}
 use Rattle.solve_library.specs.Found.{IsTextFor, IsUntoldOf}
 
 -- a quotient is opened, and the text is what is asked for of it
-abbrev pub IsOpenedText : Option Certificate → ℕ → List ℕ → Type 0
-IsOpenedText opened output text = (c : Certificate) × (opened ≡ Some c) × IsTextFor output c text
+abbrev pub IsOpenedText : Option Certificate → ℕ → ℕ → List ℕ → Type 0
+IsOpenedText opened output form text =
+    (c : Certificate) × (opened ≡ Some c) × IsTextFor output form c text
 
 -- Why no text is told: nothing is opened; or something is, and there is no such output or form, or its
 -- text isn't told.

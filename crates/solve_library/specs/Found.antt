@@ -10,13 +10,14 @@ use Rattle.answers.specs.ByteVerdicts.ByteVerdict.{Yes}
 use Rattle.answers.specs.Refusals.{refusal_number}
 use Rattle.answers.specs.declared.refusal.Refusal.{Refusal}
 use Rattle.check_machine.specs.Turns.{verdict}
-use Rattle.descriptions.specs.Described.{IsDescription, IsPresentable}
+use Rattle.descriptions.specs.Described.{IsDescription, IsIdealText, IsPresentable}
+use Rattle.descriptions.specs.declared.systems.System.TheVariants.{Singular, Gap}
 use Rattle.quotient_search.specs.declared.aim.TheConstants.{DEEPEST}
 use Rattle.relations.specs.declared.fault.Undescribed.{Undescribed}
 use Rattle.relations.specs.declared.fault.Undescribed.TheVariants.{Letters, Exponents, Unshown, Memory as NoMemory}
 use Rattle.relations.specs.declared.finding.Form.{Form}
 use Rattle.relations.specs.declared.finding.Form.TheVariants.{Short, Basis}
-use Rattle.relations.specs.declared.text.Notation.TheVariants.{Plain, Latex}
+use Rattle.relations.specs.declared.text.Notation.TheVariants.{Plain, Latex, Json}
 use Rattle.requests.specs.declared.plans.Aim.{Aim}
 use Rattle.requests.specs.declared.plans.Aim.TheVariants.{Whole, Deep, Part, Furthest}
 use Rattle.requests.specs.declared.plans.SolveBounds.{SolveBounds}
@@ -96,12 +97,27 @@ IsUnfound text a status = ((status ≡ 15) × (IsInRange a → ⊥))
     ⊎ (IsInRange a
     × (((status ≡ 12) × IsNoCode text) ⊎ (((status ≡ 13) × IsGivenUp text a) ⊎ (status ≡ 9))))
 
--- The text is what is asked for of the quotient: 0 its description, 1 that for LaTeX, 2 its
--- relations as one word.
-pub data IsTextFor (output : ℕ) (c : Certificate) (text : List ℕ) : Type 0 where
-  Description : output ≡ 0 → IsDescription Plain c text → IsTextFor output c text
-  ForLatex : output ≡ 1 → IsDescription Latex c text → IsTextFor output c text
-  Relations : output ≡ 2 → IsPresentable c text → IsTextFor output c text
+-- the number of a form of relations
+abbrev pub form_number : Form → ℕ
+form_number Short = 0
+form_number Basis = 1
+
+-- The text is what is asked for of the quotient, with relations in the form of this number: 0 its
+-- description, 1 that for LaTeX, 2 its relations as one word, 3 its description in JSON, 4 and 5 the
+-- ideal of its relations for Singular and for GAP.
+pub data IsTextFor (output form : ℕ) (c : Certificate) (text : List ℕ) : Type 0 where
+  Description : (f : Form) → output ≡ 0 → form ≡ form_number f → IsDescription Plain f c text
+      → IsTextFor output form c text
+  ForLatex : (f : Form) → output ≡ 1 → form ≡ form_number f → IsDescription Latex f c text
+      → IsTextFor output form c text
+  Relations : (f : Form) → output ≡ 2 → form ≡ form_number f → IsPresentable c text
+      → IsTextFor output form c text
+  InJson : (f : Form) → output ≡ 3 → form ≡ form_number f → IsDescription Json f c text
+      → IsTextFor output form c text
+  ForSingular : (f : Form) → output ≡ 4 → form ≡ form_number f → IsIdealText Singular f c text
+      → IsTextFor output form c text
+  ForGap : (f : Form) → output ≡ 5 → form ≡ form_number f → IsIdealText Gap f c text
+      → IsTextFor output form c text
 
 -- the bytes are an accepted certificate, to which the verdict under the limit is yes, and of which the
 -- rest is true
@@ -110,8 +126,8 @@ Certify bytes limit says =
     (c : Certificate) × Spells bytes c × Accepted c × (verdict bytes limit ≡ Yes c) × says c
 
 -- the bytes are certified, and the text is what is asked for of the quotient
-abbrev pub IsTextOf : List ℕ → ℕ → ℕ → List ℕ → Type 0
-IsTextOf bytes limit output text = Certify bytes limit (λ c. IsTextFor output c text)
+abbrev pub IsTextOf : List ℕ → ℕ → ℕ → ℕ → List ℕ → Type 0
+IsTextOf bytes limit output form text = Certify bytes limit (λ c. IsTextFor output form c text)
 
 -- the number of a quotient that isn't described: 9 where memory was refused, else 16
 abbrev pub undescribed_number : Undescribed → ℕ
@@ -119,11 +135,6 @@ undescribed_number Letters = 16
 undescribed_number Exponents = 16
 undescribed_number Unshown = 16
 undescribed_number NoMemory = 9
-
--- the number of a form of relations
-abbrev pub form_number : Form → ℕ
-form_number Short = 0
-form_number Basis = 1
 
 -- The number is that of the verdict on the bytes under the limit, which refuses them, truly.
 abbrev pub IsRefusal : List ℕ → ℕ → ℕ → Type 0
@@ -133,12 +144,12 @@ IsRefusal bytes limit status = (refusal : Refusal Global) × (status ≡ refusal
 -- why no text of a certified quotient is told: there is no such output, or the quotient isn't
 -- described, or memory was refused
 abbrev pub IsUntoldOf : ℕ → ℕ → Type 0
-IsUntoldOf output status = ((status ≡ 15) × (3 ≤ output)) ⊎ ((status ≡ 16) ⊎ (status ≡ 9))
+IsUntoldOf output status = ((status ≡ 15) × (6 ≤ output)) ⊎ ((status ≡ 16) ⊎ (status ≡ 9))
 
 -- Why no text is told: there is no such output or form; or the bytes are certified, and the quotient
 -- isn't described; or memory was refused; or the bytes are, by their verdict.
 abbrev pub IsUntold : List ℕ → ℕ → ℕ → ℕ → ℕ → Type 0
 IsUntold bytes limit output form status =
-    ((status ≡ 15) × ((3 ≤ output) ⊎ (2 ≤ form)))
+    ((status ≡ 15) × ((6 ≤ output) ⊎ (2 ≤ form)))
     ⊎ (((status ≡ 16) × Certify bytes limit (λ c. Unit {0}))
     ⊎ ((status ≡ 9) ⊎ IsRefusal bytes limit status))

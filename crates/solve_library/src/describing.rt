@@ -1,12 +1,16 @@
 //! The description of a certified quotient.
 ghost use Rattle.std.specs.Prelude.{◌≡◌, ◌≢◌, ◌↔◌, ◌≤◌, ◌⊎◌, IfOk, IfErr, IfSome, IsSome, None};
 ghost use Rattle.std.specs.String.{string_bytes};
+ghost use Rattle.descriptions.specs.Described.{IsDescription, IsIdealText};
 ghost use Rattle.solve_library.specs.Found.{IsTextFor, IsTextOf, IsUntold, IsUntoldOf, form_number, undescribed_number};
 
 use crate::numbers::{MEMORY, NOT_DESCRIBED, NOT_IN_RANGE};
 use answers::Certified;
 use checker::check;
-use descriptions::{Form, Notation, RelationsWord, Undescribed, description_text, relations_word};
+use descriptions::{
+    Form, Notation, RelationsWord, System, Undescribed, description_text, ideal_text,
+    relations_word,
+};
 use std::alloc::Global;
 
 /// The status of a quotient that isn't described.
@@ -32,7 +36,8 @@ fn taken(found: RelationsWord) -> Result<String, u32>
 
 /// The relations of the quotient, as one word that `present` takes.
 fn presentable(alloc: Global, certified: &Certified, form: Form) -> Result<String, u32>
-    ensures told { IfOk result (λ t. IsTextFor 2 certified.now (string_bytes t)) }
+    ensures told { IfOk result
+        (λ t. IsTextFor 2 (form_number form) certified.now (string_bytes t)) }
     ensures why { IfErr result (λ s. (s ≡ 16) ⊎ (s ≡ 9)) }
 {
     match relations_word(alloc, certified, form) {
@@ -41,20 +46,47 @@ fn presentable(alloc: Global, certified: &Certified, form: Form) -> Result<Strin
     }
 }
 
-/// The text that is asked for of the quotient.
-fn text_for(alloc: Global, certified: &Certified, output: u32, form: Form) -> Result<String, u32>
-    ensures told { IfOk result (λ t. IsTextFor output certified.now (string_bytes t)) }
-    ensures why { IfErr result (IsUntoldOf output) }
+/// The description of the quotient, or the status.
+fn written(
+    alloc: Global,
+    certified: &Certified,
+    notation: Notation,
+    form: Form,
+) -> Result<String, u32>
+    ensures told { IfOk result (λ t. IsDescription notation form certified.now (string_bytes t)) }
+    ensures why { IfErr result (λ s. (s ≡ 16) ⊎ (s ≡ 9)) }
 {
-    let notation = match output {
-        0 => Notation::Plain,
-        1 => Notation::Latex,
-        2 => return presentable(alloc, certified, form),
-        _ => return Err(NOT_IN_RANGE),
-    };
     match description_text(alloc, notation, certified, form) {
         Ok(text) => Ok(text),
         Err(fault) => Err(undescribed(fault)),
+    }
+}
+
+/// The ideal of the quotient's relations, or the status.
+fn computed(alloc: Global, certified: &Certified, system: System, form: Form) -> Result<String, u32>
+    ensures told { IfOk result (λ t. IsIdealText system form certified.now (string_bytes t)) }
+    ensures why { IfErr result (λ s. (s ≡ 16) ⊎ (s ≡ 9)) }
+{
+    match ideal_text(alloc, system, certified, form) {
+        Ok(text) => Ok(text),
+        Err(fault) => Err(undescribed(fault)),
+    }
+}
+
+/// The text that is asked for of the quotient.
+fn text_for(alloc: Global, certified: &Certified, output: u32, form: Form) -> Result<String, u32>
+    ensures told { IfOk result
+        (λ t. IsTextFor output (form_number form) certified.now (string_bytes t)) }
+    ensures why { IfErr result (IsUntoldOf output) }
+{
+    match output {
+        0 => written(alloc, certified, Notation::Plain, form),
+        1 => written(alloc, certified, Notation::Latex, form),
+        2 => presentable(alloc, certified, form),
+        3 => written(alloc, certified, Notation::Json, form),
+        4 => computed(alloc, certified, System::Singular, form),
+        5 => computed(alloc, certified, System::Gap, form),
+        _ => Err(NOT_IN_RANGE),
     }
 }
 
@@ -77,7 +109,7 @@ pub(crate) fn text_by(
     output: u32,
     form: u32,
 ) -> Result<String, u32>
-    ensures told { IfOk result (λ t. IsTextFor output certified.now (string_bytes t)) }
+    ensures told { IfOk result (λ t. IsTextFor output form certified.now (string_bytes t)) }
     ensures why { IfErr result (λ s. ((s ≡ 15) × (2 ≤ form)) ⊎ IsUntoldOf output s) }
 {
     match form_of(form) {
@@ -94,7 +126,7 @@ pub(crate) fn described(
     output: u32,
     form: u32,
 ) -> Result<String, u32>
-    ensures told { IfOk result (λ t. IsTextOf bytes.now limit output (string_bytes t)) }
+    ensures told { IfOk result (λ t. IsTextOf bytes.now limit output form (string_bytes t)) }
     ensures no { IfErr result (λ s. s ≢ 0 × s ≢ 14) }
     ensures why { IfErr result (IsUntold bytes.now limit output form) }
 {

@@ -97,8 +97,9 @@ pub extern "C" fn misere_solve_why(
 }
 
 /// Describes the quotient that the bytes certify: `output` is 0 for its description, 1 for that for
-/// LaTeX, 2 for its relations as one word; `form` is 0 for a short list of relations, 1 for the
-/// reduced basis. Tells the text, and how many bytes it has; where there is no room for them, how many
+/// LaTeX, 2 for its relations as one word, 3 for its description in JSON, 4 and 5 for the ideal of its
+/// relations for Singular and for GAP; `form` is 0 for a short list of relations, 1 for the reduced
+/// Gröbner basis. Tells the text, and how many bytes it has; where there is no room for them, how many
 /// they are alone.
 #[unsafe(no_mangle)]
 pub extern "C" fn misere_describe(
@@ -111,12 +112,12 @@ pub extern "C" fn misere_describe(
     count: &mut u64,
 ) -> u32
     ensures described { result ≡ 0
-        → IsTextOf bytes.now limit output (take count.new told.new) }
+        → IsTextOf bytes.now limit output form (take count.new told.new) }
     ensures no { result ≢ 0 → result ≢ 14 → IsUntold bytes.now limit output form result }
     ensures stays { result ≢ 0 → told.new ≡ told.old }
     ensures room { result ≡ 14 → length told.old < count.new }
     ensures counts { result ≡ 14
-        → (text : List ℕ) × IsTextOf bytes.now limit output text × (count.new ≡ length text) }
+        → (text : List ℕ) × IsTextOf bytes.now limit output form text × (count.new ≡ length text) }
     ensures untold { result ≢ 0 → result ≢ 14 → count.new ≡ count.old }
 {
     match described(alloc, bytes, limit, output, form) {
@@ -135,13 +136,14 @@ pub extern "C" fn misere_opened_describe(
     told: &mut [u8],
     count: &mut u64,
 ) -> u32
-    ensures described { result ≡ 0 → IsOpenedText opened.old.handle.value output (take count.new told.new) }
+    ensures described { result ≡ 0 → IsOpenedText opened.old.handle.value output form
+        (take count.new told.new) }
     ensures no { result ≢ 0 → result ≢ 14 → IsOpenedUntold opened.old.handle.value output form result }
     ensures same { opened.new.handle.value ≡ opened.old.handle.value }
     ensures stays { result ≢ 0 → told.new ≡ told.old }
     ensures room { result ≡ 14 → length told.old < count.new }
     ensures counts { result ≡ 14
-        → (text : List ℕ) × IsOpenedText opened.old.handle.value output text × (count.new ≡ length text) }
+        → (text : List ℕ) × IsOpenedText opened.old.handle.value output form text × (count.new ≡ length text) }
     ensures untold { result ≢ 0 → result ≢ 14 → count.new ≡ count.old }
 {
     match opened_text(alloc, opened, output, form) {

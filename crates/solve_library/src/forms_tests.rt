@@ -18,7 +18,7 @@ struct Formed {
     end: &'static str,
 }
 
-static OF_KAYLES: [Formed; 6] = [
+static OF_KAYLES: [Formed; 11] = [
     Formed {
         output: 0,
         form: 0,
@@ -66,6 +66,48 @@ $f^{2}=b^{2}$, $b^{2}g=g$, $c^{2}g=g$, $dg=cg$, $eg=cg$, $fg=ag$, $g^{2}=b^{2}\\
         beginning: "a^2=1 b^3=b b^2c=acf bc^2=b c^3=c bd=bc cd=b^2 d^3=d be=bc ce=b^2 e^2=de \
 bf=ab c^2f=ab^2 d^2f=f f^2=b^2 b^2g=g c^2g=g dg=cg eg=cg fg=ag g^2=b^2 e^4=e^2 f^4=f^2 g^3=g",
         end: "",
+    },
+    Formed {
+        output: 3,
+        form: 0,
+        beginning: "{\"code\":\"0.77\",\"kind\":\"partial\",\"relations\":[[\"a^2\",\"1\"],[\"c^3\",\"c\"],\
+[\"cd\",\"b^2\"],[\"d^3\",\"d\"],[\"ce\",\"b^2\"],[\"e^2\",\"de\"],[\"bf\",\"ab\"],[\"d^2f\",\"f\"],[\"f^2\",\"b^2\"],\
+[\"fg\",\"ag\"],[\"g^2\",\"b^2\"]],\"portion\":[\"a\",\"d\",\"e\",\"ac\",\"b^2\",\"ac^2\",\"ad^2\",\"ade\",\
+\"adf\"],\"order\":40,\"tame\":null,\"generators\":{\"a\":1,\"b\":2,\"c\":5,\"d\":9,\"e\":12,\"f\":25,\"g\":27},",
+        end: ",\"start\":28,\"period\":0}\n",
+    },
+    Formed {
+        output: 4,
+        form: 0,
+        beginning: "// Q_27(0.77), of order 40: vdim(std(I))\nring R = 0,(g,f,e,d,c,b,a),dp;\nideal I =\n\
+  a^2-1,\n  c^3-c,\n  c*d-b^2,\n  d^3-d,\n  c*e-b^2,\n  e^2-d*e,\n  b*f-a*b,\n  d^2*f-f,\n\
+  f^2-b^2,\n  f*g-a*g,\n  g^2-b^2;\n",
+        end: "",
+    },
+    Formed {
+        output: 4,
+        form: 1,
+        beginning: "// Q_27(0.77), of order 40: vdim(std(I))\nring R = 0,(g,f,e,d,c,b,a),dp;\nideal I =\n\
+  a^2-1,\n  b^3-b,\n  b^2*c-a*c*f,\n  b*c^2-b,\n  c^3-c,\n  b*d-b*c,\n  c*d-b^2,\n  d^3-d,\n\
+  b*e-b*c,\n  c*e-b^2,\n  e^2-d*e,\n  b*f-a*b,\n  c^2*f-a*b^2,\n  d^2*f-f,\n  f^2-b^2,\n\
+  b^2*g-g,\n  c^2*g-g,\n  d*g-c*g,\n  e*g-c*g,\n  f*g-a*g,\n  g^2-b^2;\n",
+        end: "",
+    },
+    Formed {
+        output: 5,
+        form: 0,
+        beginning: "# Q_27(0.77), of order 40: ReducedGroebnerBasis(I, O)\n\
+g := Indeterminate(Rationals, \"g\" : new);;\n",
+        end: "I := [\n  a^2-1,\n  c^3-c,\n  c*d-b^2,\n  d^3-d,\n  c*e-b^2,\n  e^2-d*e,\n  b*f-a*b,\n\
+  d^2*f-f,\n  f^2-b^2,\n  f*g-a*g,\n  g^2-b^2];;\nO := MonomialGrevlexOrdering(g,f,e,d,c,b,a);;\n",
+    },
+    Formed {
+        output: 5,
+        form: 1,
+        beginning: "# Q_27(0.77), of order 40: ReducedGroebnerBasis(I, O)\n\
+g := Indeterminate(Rationals, \"g\" : new);;\n",
+        end: "  b^2*g-g,\n  c^2*g-g,\n  d*g-c*g,\n  e*g-c*g,\n  f*g-a*g,\n  g^2-b^2];;\n\
+O := MonomialGrevlexOrdering(g,f,e,d,c,b,a);;\n",
     },
 ];
 
@@ -127,14 +169,14 @@ fn is_told_alike(
 /// How many outputs, each in three forms, are told alike, up to the first that isn't.
 fn count_told_alike(alloc: Global, bytes: &[u8]) -> Option<u32> {
     let mut opened = opened_of(alloc, bytes)?;
-    for output in 0..4 {
+    for output in 0..7 {
         for form in 0..3 {
             if !is_told_alike(alloc, &mut opened, bytes, output, form)? {
                 return Some(output);
             }
         }
     }
-    Some(4)
+    Some(7)
 }
 
 /// The status of a description of what is opened in a room of 5 bytes, and how many it has.
@@ -152,10 +194,10 @@ fn described_closed(alloc: Global, output: u32, form: u32) -> u32 {
 
 #[test]
 fn opened_quotients_are_described_as_their_bytes(rt: HostRuntime) {
-    assert_eq!(&rt; count_told_alike(rt.alloc(), OF_0_75), Some(4));
+    assert_eq!(&rt; count_told_alike(rt.alloc(), OF_0_75), Some(7));
     assert!(&rt; described_without_room(rt.alloc()) == Some((14, 33)));
     assert_eq!(&rt; described_closed(rt.alloc(), 0, 0), 17);
-    assert_eq!(&rt; described_closed(rt.alloc(), 3, 2), 17);
+    assert_eq!(&rt; described_closed(rt.alloc(), 6, 2), 17);
 }
 
 /// Whether the text is as the row says.
@@ -182,14 +224,14 @@ fn count_formed(alloc: Global) -> Option<(usize, u32)> {
 
 #[test]
 fn kayles_is_described_in_each_form(rt: HostRuntime) {
-    assert!(&rt; count_formed(rt.alloc()) == Some((6, 4)));
+    assert!(&rt; count_formed(rt.alloc()) == Some((11, 7)));
 }
 
 /// An output and a form; the status of a description of a part of 304 elements, and how it begins.
 struct Begun(u32, u32, u32, &'static [u8]);
 
 /// Its relations have no table within the box of `present`.
-static OF_304: [Begun; 6] = [
+static OF_304: [Begun; 10] = [
     Begun(0, 0, 0, b"Q_16(0.6) = < a,"),
     Begun(0, 1, 0, b"Q_16(0.6) = < a,"),
     Begun(
@@ -206,6 +248,30 @@ static OF_304: [Begun; 6] = [
     ),
     Begun(2, 0, 16, b""),
     Begun(2, 1, 16, b""),
+    Begun(
+        3,
+        0,
+        0,
+        b"{\"code\":\"0.6\",\"kind\":\"partial\",\"relations\":[[",
+    ),
+    Begun(
+        3,
+        1,
+        0,
+        b"{\"code\":\"0.6\",\"kind\":\"partial\",\"relations\":[[",
+    ),
+    Begun(
+        4,
+        1,
+        0,
+        b"// Q_16(0.6), of order 304: vdim(std(I))\nring R = 0,(",
+    ),
+    Begun(
+        5,
+        1,
+        0,
+        b"# Q_16(0.6), of order 304: ReducedGroebnerBasis(I, O)\n",
+    ),
 ];
 
 /// How many descriptions of the part, by its bytes and of what is opened, are as their rows say, up to
@@ -227,5 +293,5 @@ fn count_begun(alloc: Global) -> Option<usize> {
 
 #[test]
 fn many_elements_are_described(rt: HostRuntime) {
-    assert_eq!(&rt; count_begun(rt.alloc()), Some(6));
+    assert_eq!(&rt; count_begun(rt.alloc()), Some(10));
 }

@@ -15,7 +15,8 @@ pub(crate) fn opened_text(
     output: u32,
     form: u32,
 ) -> Result<String, u32>
-    ensures told { IfOk result (λ t. IsOpenedText opened.old.handle.value output (string_bytes t)) }
+    ensures told { IfOk result (λ t. IsOpenedText opened.old.handle.value output form
+        (string_bytes t)) }
     ensures no { IfErr result (λ s. s ≢ 0 × s ≢ 14) }
     ensures why { IfErr result (IsOpenedUntold opened.old.handle.value output form) }
     ensures same { opened.new.handle.value ≡ opened.old.handle.value }

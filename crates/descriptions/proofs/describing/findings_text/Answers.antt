@@ -28,7 +28,7 @@ returns c =
     ++ string_bytes c.in_ok-rows.rows) ++ string_bytes c.in_ok-tail.tail =
     grind (arith, common_steps, c.in_ok-text.ensures.ok)
     in
-    assembled N C f c.len-letters.result (string_bytes c.in_ok-front.front)
+    assembled N c.args.form C f c.len-letters.result (string_bytes c.in_ok-front.front)
     (string_bytes c.in_ok-lists.lists) (string_bytes c.in_ok-rows.rows)
     (string_bytes c.in_ok-tail.tail) (string_bytes c.in_ok-text.text) c.requires n_is
     c.in_ok-front.ensures c.in_ok-lists.ensures rows_are tail_is text_is
