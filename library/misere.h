@@ -136,11 +136,18 @@ uint32_t misere_solve_why(const uint8_t *code, size_t length, uint32_t limit, ui
                           uint64_t *count);
 
 /* What is written of a quotient, and by which relations. */
-enum { MISERE_DESCRIPTION = 0, MISERE_LATEX = 1, MISERE_RELATIONS = 2 };
+enum {
+    MISERE_DESCRIPTION = 0,
+    MISERE_LATEX = 1,
+    MISERE_RELATIONS = 2,
+    MISERE_JSON = 3,
+    MISERE_SINGULAR = 4,
+    MISERE_GAP = 5
+};
 enum { MISERE_SHORT = 0, MISERE_BASIS = 1 };
 
-/* Writes the description of the quotient that the bytes certify, or its relations as one word, and to
- * *count how many bytes it has; with MISERE_NO_ROOM *count alone. */
+/* Writes the description of the quotient that the bytes certify, plain, for LaTeX or in JSON, or its
+ * relations as one word, or their ideal for Singular or GAP, and to *count how many bytes it has; with MISERE_NO_ROOM *count alone. */
 uint32_t misere_describe(const uint8_t *bytes, size_t length, uint32_t limit, uint32_t output,
                          uint32_t form, uint8_t *told, size_t room, uint64_t *count);
 

@@ -16,8 +16,6 @@ mod sound;
 mod standing;
 mod tables;
 mod testing;
-#[cfg(test)]
-mod tests;
 mod tried;
 mod verify;
 

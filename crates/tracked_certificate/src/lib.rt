@@ -15,8 +15,6 @@ mod reader;
 mod reading;
 mod regions;
 mod rows;
-#[cfg(test)]
-mod tests;
 mod text;
 mod tracks;
 mod weight;

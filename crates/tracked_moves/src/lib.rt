@@ -10,8 +10,6 @@ mod part;
 mod sums;
 mod tables;
 mod testing;
-#[cfg(test)]
-mod tests;
 
 pub use answer::moves_of;
 pub use fault::MovesFault;

@@ -100,16 +100,16 @@ fn left(top: u32, modulus: u32, x: i64, taken: i64) -> Option<i64>
     rest(top, modulus, x.checked_sub(taken)?)
 }
 
-/// The down of the place of two counts.
-pub(crate) fn place_down(a: &Fold, x: i64, y: i64) -> Option<i64>
+/// The down of the place of two counts, unless a number on the way has no room in 64 bits.
+pub fn place_down(a: &Fold, x: i64, y: i64) -> Option<i64>
     ensures { IfSome result (λ p. p ≡ place_down a.now x y) }
 {
     let taken = taken(a, x, y)?;
     left(a.top_down, a.modulus, x, taken)
 }
 
-/// The up of the place of two counts.
-pub(crate) fn place_up(a: &Fold, x: i64, y: i64) -> Option<i64>
+/// The up of the place of two counts, unless a number on the way has no room in 64 bits.
+pub fn place_up(a: &Fold, x: i64, y: i64) -> Option<i64>
     ensures { IfSome result (λ p. p ≡ place_up a.now x y) }
 {
     let taken = taken(a, x, y)?;

@@ -15,11 +15,9 @@ mod tables;
 mod tracks;
 mod verify;
 
+pub use arithmetic::{place_down, place_up};
 pub use entries::cell_in;
 pub use fault::PointsFault;
 pub use make::points_of;
 pub use tables::{Axes, Points};
 pub use tracks::all_place_count;
-
-#[cfg(test)]
-mod tests;

@@ -1,8 +1,7 @@
 //! Places, and how many there are, as other programs have them.
-use crate::arithmetic::{place_down, place_up};
-use crate::{Axes, Points, PointsFault, points_of};
 use std::alloc::Allocator;
 use tracked_claims::Fold;
+use tracked_places::{Axes, Points, PointsFault, place_down, place_up, points_of};
 
 /// A fold's numbers: from which downs and ups, the step, the tops, the modulus.
 type Numbers = [u32; 6];

@@ -1,6 +1,6 @@
 //! Texts of certificates with tracks: what is read, and what is refused.
-use crate::{TextFault, read};
 use std::alloc::Global;
+use tracked_certificate::{TextFault, read};
 
 /// The certificate of 0.354 with the heaps 1 to 5.
 const OF_0_354: &[u8] = b"mqi 1\ncode 0.354\nheaps 5\norder 12\nphi 1 2 3 4 3\n\

@@ -1,8 +1,8 @@
 //! The moves of 0.354 to heap 5, worked out by hand.
-use crate::{Moves, MovesFault, moves_of};
 use octal_code::Code;
 use std::alloc::Allocator;
 use tracked_claims::{Fold, Tracked};
+use tracked_moves::{Moves, MovesFault, moves_of};
 
 /// The products: those of the elements 0 to 4, and behind them each row by two of these.
 static ROWS: [u16; 144] = [

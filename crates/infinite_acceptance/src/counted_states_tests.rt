@@ -1,6 +1,6 @@
 //! A heap of 1 that can only be taken whole: with an odd number of them a position is P.
-use crate::{KeptPairs, Tables, Untested, reach_of, tested_states};
 use allocation::Memory;
+use counted_states::{KeptPairs, Tables, Untested, reach_of, tested_states};
 use std::alloc::Allocator;
 
 /// The tables of the claim that positions of one element are P, of two elements, those of even and of odd
