@@ -1,0 +1,240 @@
+//! The search from a code alone.
+ghost use Rattle.std.specs.Prelude.{◌≡◌, IfOk};
+ghost use Rattle.tracked_text.specs.Said.{Said};
+ghost use Rattle.tracked_text.specs.Spelling.{Spells};
+ghost use Rattle.infinite_answers.specs.Shown.{IsShown};
+ghost use Rattle.infinite_answers.specs.Kept.{IsKeptOf};
+
+use crate::base::Base;
+use crate::counted::{Counting, Cycles, counted, heap_leads};
+use crate::generators::Generators;
+use crate::layout::Layout;
+use crate::outcomes::View;
+use crate::trying::Tries;
+use allocation::{Memory, SmallAllocator};
+use infinite_answers::{Infinite, InfiniteRefusal};
+use infinite_checker::check_infinite;
+use octal_code::Code;
+use quotient_search::{Guesses, Halt, HeapQuotient, Work};
+use std::alloc::{Allocator, Global};
+
+/// The most wrong quotients of one part that are looked at.
+const MOST_GUESSES: usize = 12;
+
+/// The work that the quotients may take, and the work beside each of them.
+const SEARCH_WORK: u64 = 60_000_000_000;
+
+const TRY_WORK: u64 = 10_000_000_000;
+
+/// The most elements of a base.
+const MOST_BASE: usize = 3000;
+
+/// How many heaps may count.
+const FEWEST_COUNTED: usize = 2;
+
+const MOST_COUNTED: usize = 5;
+
+/// A certificate with tracks that was found, and what the check of its bytes keeps of it.
+#[derive(Drop)]
+pub struct FoundInfinite<A: SmallAllocator = Global> {
+    pub text: Vec<u8, A>,
+    pub shown: Infinite<A>,
+}
+
+/// Why none was found. Nothing is claimed of the game.
+#[derive(Clone, Copy, Debug, PartialEq, Eq)]
+pub enum Unfound {
+    /// Each part up to this heap seems to have a finite quotient.
+    Finite { heaps: usize },
+    /// At this heap the quotients that were guessed are wrong, and no shape that was tried is right.
+    Shapes { heap: usize },
+    /// At this heap the search came to its bound of work or of elements.
+    Work { heap: usize },
+    /// What was found was refused when it was checked again.
+    Refused,
+}
+
+/// Where a search is: the part at which guesses are wrong, how many were looked at there, and the leads
+/// in the first one.
+#[derive(Drop)]
+struct Part<A: Allocator> {
+    heap: usize,
+    guesses: usize,
+    leads: Vec<usize, A>,
+}
+
+/// Looks for a certificate by the heaps that are taken for ones that count.
+fn text_counting<A: SmallAllocator + Copy>(
+    alloc: A,
+    code: &Code,
+    quotient: &HeapQuotient<A>,
+    generators: &Generators<A>,
+    cycles: &Cycles<A>,
+    counted: &[usize],
+    limit: u32,
+    tries: usize,
+) -> Result<Option<Vec<u8, A>>, Halt> {
+    let mut work = Work::new(TRY_WORK);
+    let base = Base::new(alloc, quotient, generators, counted, &mut work)?;
+    if base.count() > MOST_BASE {
+        return Ok(None);
+    }
+    let layout = Layout::new(alloc, &base, generators, counted, &mut work)?;
+    let view = View {
+        alloc,
+        quotient,
+        generators,
+        counted,
+        base: &base,
+        layout: &layout,
+    };
+    let outcomes = view.outcomes(code, &mut work)?;
+    let mut tries = Tries {
+        code,
+        view: &view,
+        outcomes: &outcomes,
+        cycles,
+        limit,
+        left: tries,
+    };
+    tries.try_all(&mut work)
+}
+
+impl<A: SmallAllocator + Copy> Part<A> {
+    /// Looks for a certificate by a wrong quotient.
+    fn text_by(
+        &self,
+        alloc: A,
+        code: &Code,
+        quotient: &HeapQuotient<A>,
+        limit: u32,
+    ) -> Result<Option<Vec<u8, A>>, Halt> {
+        let mut work = Work::new(TRY_WORK);
+        let generators = Generators::new(alloc, quotient, &mut work)?;
+        let cycles = Cycles::of_generators(alloc, quotient, &generators, &mut work)?;
+        let tries = if self.guesses == 0 { 2 } else { 8 };
+        let mut last: Vec<usize, A> = Vec::new(alloc);
+        for counting in [Counting::Grown, Counting::GrownOrLong] {
+            let found = counted(alloc, &generators, &cycles, &self.leads, counting)?;
+            if found.len() < FEWEST_COUNTED || found.len() > MOST_COUNTED || found == last {
+                continue;
+            }
+            let text = text_counting(
+                alloc,
+                code,
+                quotient,
+                &generators,
+                &cycles,
+                &found,
+                limit,
+                tries,
+            );
+            match text {
+                Err(Halt::Memory) => return Err(Halt::Memory),
+                Ok(Some(text)) => return Ok(Some(text)),
+                _ => {}
+            }
+            last = found;
+        }
+        Ok(None)
+    }
+
+    /// Looks for a certificate by a wrong quotient of the heaps 1 to `heap`, and takes note of it.
+    fn look(
+        &mut self,
+        alloc: A,
+        code: &Code,
+        quotient: &HeapQuotient<A>,
+        heap: usize,
+        limit: u32,
+    ) -> Result<Option<Vec<u8, A>>, Halt> {
+        if self.heap != heap {
+            self.heap = heap;
+            self.guesses = 0;
+            self.leads.clear();
+        }
+        let text = self.text_by(alloc, code, quotient, limit)?;
+        if self.guesses == 0 {
+            let mut work = Work::new(TRY_WORK);
+            self.leads = heap_leads(alloc, quotient, &mut work)?;
+        }
+        self.guesses = self.guesses.saturating_add(1);
+        Ok(text)
+    }
+}
+
+/// The text of a certificate of the first part that has no finite quotient, if it is found, and else
+/// why not.
+fn search<A: SmallAllocator + Copy>(
+    alloc: A,
+    code: &Code,
+    heaps: usize,
+    limit: u32,
+) -> Result<Result<Vec<u8, A>, Unfound>, Halt> {
+    let mut part = Part {
+        heap: 0,
+        guesses: 0,
+        leads: Vec::new(alloc),
+    };
+    let mut guesses = Guesses::new(alloc, code, heaps, SEARCH_WORK)?;
+    for _ in 0..u64::MAX {
+        let heap = match guesses.go_on() {
+            Ok(Some(heap)) => heap,
+            Ok(None) => return Ok(Err(Unfound::Finite { heaps })),
+            Err(Halt::Memory) => return Err(Halt::Memory),
+            Err(_) => return Ok(Err(Unfound::Work { heap: part.heap })),
+        };
+        if let Some(text) = part.look(alloc, code, guesses.quotient(), heap, limit)? {
+            return Ok(Ok(text));
+        }
+        if part.guesses > MOST_GUESSES {
+            return Ok(Err(Unfound::Shapes { heap }));
+        }
+    }
+    Ok(Err(Unfound::Refused))
+}
+
+/// The same, where only want of memory is an error.
+fn searched<A: SmallAllocator + Copy>(
+    alloc: A,
+    code: &Code,
+    heaps: usize,
+    limit: u32,
+) -> Result<Result<Vec<u8, A>, Unfound>, Memory> {
+    match search(alloc, code, heaps, limit) {
+        Ok(found) => Ok(found),
+        Err(Halt::Memory) => Err(Memory),
+        Err(_) => Ok(Err(Unfound::Work { heap: heaps })),
+    }
+}
+
+/// Looks for a certificate with tracks of the first part, of the heaps 1 to some heap up to `heaps`,
+/// that has no finite quotient. What it hands out was accepted by the check of its bytes, where no more
+/// than `limit` pairs are kept. The work is bounded, and the answer depends on what is asked alone.
+pub fn find_infinite<A: SmallAllocator + Copy>(
+    alloc: A,
+    code: &Code,
+    heaps: usize,
+    limit: u32,
+) -> Result<Result<FoundInfinite<A>, Unfound>, Memory>
+    ensures accepted { IfOk result
+        (λ found. IfOk found
+        (λ f. (c : Said) × Spells f.text.items c × IsKeptOf f.shown c × IsShown c)) }
+    ensures code { IfOk result (λ found. IfOk found (λ f. f.shown.claim.code ≡ code.now)) }
+{
+    let text = match searched(alloc, code, heaps, limit)? {
+        Ok(text) => text,
+        Err(why) => return Ok(Err(why)),
+    };
+    match check_infinite(alloc, &text, limit) {
+        Ok(shown) => {
+            if *shown.code() == *code {
+                Ok(Ok(FoundInfinite { text, shown }))
+            } else {
+                Ok(Err(Unfound::Refused))
+            }
+        }
+        Err(InfiniteRefusal::Memory) => Err(Memory),
+        Err(_) => Ok(Err(Unfound::Refused)),
+    }
+}

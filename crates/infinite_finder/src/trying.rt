@@ -1,0 +1,284 @@
+//! Shapes tried beside a wrong quotient.
+use crate::counted::Cycles;
+use crate::drafting::drafted;
+use crate::elements::elements_of;
+use crate::fitting::fits;
+use crate::merging::merged;
+use crate::numbers::{at, places_by_size, rest, share};
+use crate::outcomes::{Outcomes, View};
+use crate::rays::Sketch;
+use crate::refining::refined;
+use crate::shapes::{Fold, Shape};
+use crate::states::states_of;
+use allocation::SmallAllocator;
+use infinite_answers::InfiniteRefusal;
+use infinite_checker::check_infinite;
+use octal_code::Code;
+use quotient_search::{Halt, Work};
+use std::alloc::Allocator;
+
+/// The most states of a shape.
+const MOST_STATES: usize = 400_000;
+
+/// Signed tracks that are tried: from where on counts come again in the monoid, how far the difference
+/// is told, and by what modulus beyond.
+const SIGNED: &[(usize, usize, usize)] = &[
+    (2, 3, 2),
+    (2, 4, 2),
+    (3, 4, 2),
+    (3, 6, 2),
+    (3, 4, 6),
+    (4, 6, 2),
+];
+
+/// Tries of shapes, so many at most.
+#[derive(Drop)]
+pub struct Tries<'a, A: Allocator> {
+    pub code: &'a Code,
+    pub view: &'a View<'a, A>,
+    pub outcomes: &'a Outcomes<A>,
+    pub cycles: &'a Cycles<A>,
+    pub limit: u32,
+    pub left: usize,
+}
+
+/// Whether the check accepts the bytes.
+fn is_accepted<A: SmallAllocator + Copy>(alloc: A, text: &[u8], limit: u32) -> Result<bool, Halt> {
+    match check_infinite(alloc, text, limit) {
+        Ok(shown) => {
+            drop(shown);
+            Ok(true)
+        }
+        Err(InfiniteRefusal::Memory) => Err(Halt::Memory),
+        Err(refusal) => {
+            drop(refusal);
+            Ok(false)
+        }
+    }
+}
+
+/// How far counts' weights go, for so many heaps.
+fn spread(rank: usize) -> usize {
+    match rank {
+        2 | 4 => 4,
+        3 => 3,
+        _ => 2,
+    }
+}
+
+/// The weight of a heap in a code of weights: less than the spread if the heap goes down.
+fn digit(code: usize, rank: usize, i: usize) -> usize {
+    let base = spread(rank).saturating_mul(2).saturating_add(1);
+    let mut left = code;
+    for _ in 0..i {
+        left = share(left, base);
+    }
+    rest(left, base)
+}
+
+/// How much all weights are together.
+fn weight_of(code: usize, rank: usize) -> usize {
+    let mut sum = 0usize;
+    for i in 0..rank {
+        sum = sum.saturating_add(digit(code, rank, i).abs_diff(spread(rank)));
+    }
+    sum
+}
+
+/// Whether some heap goes down, and the last that goes at all goes up.
+fn is_mixed(code: usize, rank: usize) -> bool {
+    let mut goes_down = false;
+    let mut is_last_up = false;
+    for i in 0..rank {
+        let found = digit(code, rank, i);
+        goes_down = goes_down || found < spread(rank);
+        if found != spread(rank) {
+            is_last_up = found > spread(rank);
+        }
+    }
+    goes_down && is_last_up
+}
+
+/// The codes of weights, the smaller ones first.
+fn codes<A: Allocator + Copy>(alloc: A, rank: usize) -> Result<Vec<usize, A>, Halt> {
+    let mut count = 1usize;
+    for _ in 0..rank {
+        count = count.saturating_mul(spread(rank).saturating_mul(2).saturating_add(1));
+    }
+    let mut sums: Vec<usize, A> = Vec::new(alloc);
+    for code in 0..count {
+        sums.push(weight_of(code, rank))?;
+    }
+    let sorted = places_by_size(alloc, &sums)?;
+    let mut found: Vec<usize, A> = Vec::new(alloc);
+    for code in sorted.iter() {
+        if is_mixed(*code, rank) {
+            found.push(*code)?;
+        }
+    }
+    Ok(found)
+}
+
+impl<A: SmallAllocator + Copy> Tries<'_, A> {
+    /// The text that the check accepts, of a shape, if there is one.
+    fn try_shape(&mut self, shape: &Shape<A>, work: &mut Work) -> Result<Option<Vec<u8, A>>, Halt> {
+        if !fits(self.view, self.outcomes, shape, work)? {
+            return Ok(None);
+        }
+        self.left = self.left.saturating_sub(1);
+        let count = shape.combinations().saturating_mul(self.view.base.count());
+        if count > MOST_STATES {
+            return Ok(None);
+        }
+        let Some(text) = self.text_of(shape, work)? else {
+            return Ok(None);
+        };
+        if is_accepted(self.view.alloc, &text, self.limit)? {
+            return Ok(Some(text));
+        }
+        Ok(None)
+    }
+
+    /// The text of a shape that fits, if a ray is found.
+    fn text_of(&self, shape: &Shape<A>, work: &mut Work) -> Result<Option<Vec<u8, A>>, Halt> {
+        let alloc = self.view.alloc;
+        let mut found = states_of(self.view, self.outcomes, shape, work)?;
+        let classes = refined(alloc, &found, work)?;
+        let roots = merged(alloc, &mut found, classes, work)?;
+        let last = self.view.quotient.heaps().len();
+        let elements = elements_of(alloc, &found, self.view.generators, roots, last, work)?;
+        let sketch = Sketch {
+            view: self.view,
+            shape,
+            states: &found,
+            elements: &elements,
+        };
+        match sketch.ray(work)? {
+            Some(ray) => {
+                let text = drafted(alloc, self.code, &sketch, ray, work)?;
+                Ok(Some(text))
+            }
+            None => Ok(None),
+        }
+    }
+
+    /// The period of a heap that counts.
+    fn period(&self, i: usize) -> usize {
+        at(&self.cycles.periods, at(self.view.counted, i))
+    }
+
+    /// A shape by which two heaps run against each other, and the monoid knows of neither.
+    fn unsigned(&self, falling: usize, rising: usize, corner: usize) -> Result<Shape<A>, Halt> {
+        let fold = Fold {
+            down: corner,
+            up: corner,
+            down_top: corner.saturating_add(4),
+            up_top: corner.saturating_add(5),
+            modulus: 2,
+        };
+        let mut shape = Shape::new(self.view.alloc, fold);
+        for i in 0..self.view.counted.len() {
+            if i == falling {
+                shape.add(0, 1, 1, 0)?;
+            } else if i == rising {
+                shape.add(0, 1, 0, 1)?;
+            } else {
+                shape.add(4, self.period(i), 0, 0)?;
+            }
+        }
+        Ok(shape)
+    }
+
+    /// Tries the shapes by which two heaps run against each other.
+    fn try_pair(
+        &mut self,
+        falling: usize,
+        rising: usize,
+        work: &mut Work,
+    ) -> Result<Option<Vec<u8, A>>, Halt> {
+        for corner in 1..3usize {
+            let shape = self.unsigned(falling, rising, corner)?;
+            let found = self.try_shape(&shape, work)?;
+            if found.is_some() {
+                return Ok(found);
+            }
+        }
+        Ok(None)
+    }
+
+    fn try_pairs(&mut self, work: &mut Work) -> Result<Option<Vec<u8, A>>, Halt> {
+        for rising in 0..self.view.counted.len() {
+            for falling in 0..rising {
+                let found = self.try_pair(falling, rising, work)?;
+                if found.is_some() {
+                    return Ok(found);
+                }
+            }
+        }
+        Ok(None)
+    }
+
+    /// A shape with a signed track.
+    fn signed(
+        &self,
+        lead: usize,
+        width: usize,
+        modulus: usize,
+        code: usize,
+    ) -> Result<Shape<A>, Halt> {
+        let top = width.saturating_add(modulus);
+        let fold = Fold {
+            down: 0,
+            up: 0,
+            down_top: top,
+            up_top: top,
+            modulus,
+        };
+        let rank = self.view.counted.len();
+        let mut shape = Shape::new(self.view.alloc, fold);
+        for i in 0..rank {
+            let found = digit(code, rank, i);
+            let down = spread(rank).saturating_sub(found);
+            let up = found.saturating_sub(spread(rank));
+            shape.add(lead, self.period(i), down, up)?;
+        }
+        Ok(shape)
+    }
+
+    /// Tries the weights of a signed track.
+    fn try_weights(
+        &mut self,
+        codes: &[usize],
+        kind: (usize, usize, usize),
+        work: &mut Work,
+    ) -> Result<Option<Vec<u8, A>>, Halt> {
+        let (lead, width, modulus) = kind;
+        for code in codes.iter() {
+            if self.left == 0 {
+                break;
+            }
+            let shape = self.signed(lead, width, modulus, *code)?;
+            let found = self.try_shape(&shape, work)?;
+            if found.is_some() {
+                return Ok(found);
+            }
+        }
+        Ok(None)
+    }
+
+    /// Tries all shapes.
+    pub fn try_all(&mut self, work: &mut Work) -> Result<Option<Vec<u8, A>>, Halt> {
+        let found = self.try_pairs(work)?;
+        if found.is_some() {
+            return Ok(found);
+        }
+        let codes = codes(self.view.alloc, self.view.counted.len())?;
+        for kind in SIGNED.iter() {
+            let found = self.try_weights(&codes, *kind, work)?;
+            if found.is_some() {
+                return Ok(found);
+            }
+        }
+        Ok(None)
+    }
+}
