@@ -9,7 +9,7 @@ from collections.abc import Iterator, Mapping
 LINK = re.compile(r"(!?)\[([^\]]*)\]\(([^()\s]+)\)")
 # What commands on the pages name of the repository
 SURVEYS = "survey_table|survey|merge|codes"
-NAMED = re.compile(rf"(?<![\w/.-])((?:certificates|atlas)/[\w/.]+\.(?:mqc|json)|scripts/(?:{SURVEYS}))\b")
+NAMED = re.compile(rf"(?<![\w/.-])((?:certificates|atlas)/[\w/.]+\.(?:mqc|mqi|json)|scripts/(?:{SURVEYS}))\b")
 HEADING = re.compile(r"^#+ (.+)$", re.M)
 
 
@@ -28,8 +28,7 @@ def installed(text: str, source: str, places: Mapping[str, str], data: str) -> s
         leads = posixpath.relpath(place, posixpath.dirname(places[source]))
         return f"{image}[{name}]({leads}{mark}{heading})"
 
-    # (what a clone alone has stays as it is)
-    text = re.sub(r"\./misere (?!infinite)", "misere ", LINK.sub(linked, text))
+    text = LINK.sub(linked, text).replace("./misere ", "misere ")
     text = re.sub(r'src="([^":]+)"', lambda it: f'src="{leading(it[1], source, places)}"', text)
     # (what a command sends to other hosts stands there as in the repository)
     lines = (line if "--pipe" in line else NAMED.sub(lambda it: f"{data}/{it[1]}", line) for line in text.split("\n"))
