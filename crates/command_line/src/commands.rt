@@ -226,7 +226,8 @@ fn infinite_command<'a>(alloc: Global) -> Result<Command<'a>, AllocError>
     ensures { IfOk result (λ c. app_of c ≡ infinite) }
 {
     let about = "Check a certificate of an infinite quotient, and print what it shows";
-    let position = "Print a winning move in this position: the sizes of the heaps in one word; as - \
+    let position =
+        "Print a winning move in this position: the sizes of the heaps in one word; as - \
 in that of each line of standard input";
     let show = "Print how large the quotient is, and the positions that show that it is infinite";
     let made = Ok(command(alloc, "infinite", about));
