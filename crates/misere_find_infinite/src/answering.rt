@@ -51,7 +51,10 @@ fn without_end(bytes: &[u8]) -> &[u8] {
 }
 
 /// Looks for a certificate of the code that the bytes spell. What is found shows an infinite quotient.
-pub(crate) fn answer<A: SmallAllocator + Copy>(alloc: A, bytes: &[u8]) -> Result<Answer<A>, Memory>
+pub(crate) fn answer_to_code<A: SmallAllocator + Copy>(
+    alloc: A,
+    bytes: &[u8],
+) -> Result<Answer<A>, Memory>
     ensures { IfOk result (λ a. a.is_found ≡ true
         → (c : Said) × Spells a.text.items c × IsShown c) }
 {

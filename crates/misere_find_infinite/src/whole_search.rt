@@ -1,5 +1,5 @@
 //! The search from the bytes of standard input to the status.
-use crate::answering::answer;
+use crate::answering::answer_to_code;
 use allocation::SmallAllocator;
 use std::alloc::Global;
 use streams::{Sink, Source, StreamFault, read_whole, write_whole};
@@ -14,7 +14,7 @@ fn search_stream<R: Source, W: Sink, A: SmallAllocator + Copy>(
     sink: &mut W,
 ) -> Result<bool, StreamFault> {
     let bytes = read_whole(alloc, source, MOST_BYTES)?;
-    let answer = answer(alloc, &bytes)?;
+    let answer = answer_to_code(alloc, &bytes)?;
     match write_whole(sink, &answer.text) {
         Ok(()) => Ok(answer.is_found),
         Err(_) => Err(StreamFault::Write),
