@@ -4,6 +4,7 @@ ghost use Rattle.catalogue_command.specs.Tasks.{Leaves};
 ghost use Rattle.command_results.specs.Stops.{stop_status};
 ghost use Rattle.commands.specs.Causes.{IsCause, describes, failed, reads_input, runs_script, takes_files};
 ghost use Rattle.commands.specs.Responses.{RespondsWith, Says, file_written};
+ghost use Rattle.describe_command.specs.Described.{form_of};
 ghost use Rattle.requests.specs.Requests.{request_of};
 
 use catalogue_command::act;
@@ -20,6 +21,13 @@ use show_command::show;
 use solve_command::{solve, solve_lines, solve_many};
 use std::alloc::Global;
 use streams::Source;
+
+/// The form of relations that is asked for.
+fn form_of(basis: bool) -> Form
+    ensures { result ≡ form_of basis }
+{
+    if basis { Form::Basis } else { Form::Short }
+}
 
 /// What is said of what is planned, which is no script, and told beside it. Every file stays as it
 /// is but the one that the plan writes where it ends well; standard input and the files are left
@@ -53,8 +61,7 @@ pub(crate) fn carry_out<'a, F: Folder, S: Source>(
         limit,
     } = plan
     {
-        let form = if basis { Form::Basis } else { Form::Short };
-        return describe(alloc, file, limit, form, output, folder, input);
+        return describe(alloc, file, limit, form_of(basis), output, folder, input);
     }
     match say(alloc, plan, folder, input) {
         Ok(said) => Ok(Noted::plain(said)),

@@ -3,12 +3,12 @@ use Rattle.std.specs.Prelude.{◌≡◌, ◌⊎◌, ℕ, ◌≤◌, List}
 use Rattle.std.specs.declared.option.Option.{Option}
 use Rattle.std.specs.declared.option.Option.TheVariants.{None, Some}
 use Rattle.misere_theory.specs.Certificates.{Certificate}
-use Rattle.solve_library.specs.Found.{IsTextFor, IsUntoldOf}
+use Rattle.solve_library.specs.Found.{IsTextFor, IsUntoldOf, form_at}
 
 -- a quotient is opened, and the text is what is asked for of it
 abbrev pub IsOpenedText : Option Certificate → ℕ → ℕ → List ℕ → Type 0
 IsOpenedText opened output form text =
-    (c : Certificate) × (opened ≡ Some c) × IsTextFor output form c text
+    (c : Certificate) × (opened ≡ Some c) × IsTextFor output (form_at form) c text
 
 -- Why no text is told: nothing is opened; or something is, and there is no such output or form, or its
 -- text isn't told.

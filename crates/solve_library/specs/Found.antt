@@ -1,5 +1,5 @@
 -- What the search and the description of the library tell. This project's own.
-use Rattle.std.specs.Prelude.{◌≡◌, ◌⊎◌, ℕ, ◌<◌, ◌≤◌, List, Bool, true, false, Ok}
+use Rattle.std.specs.Prelude.{◌≡◌, ◌⊎◌, ◌==◌, ℕ, ◌<◌, ◌≤◌, List, Bool, true, false, Ok, if◌then◌else◌}
 use Rattle.std.specs.declared.alloc.Global.{Global}
 use Rattle.misere_theory.specs.declared.TheConstants.{LARGEST_PART, LARGEST_FIRST_ORDER, LARGEST_ORDER}
 use Rattle.misere_theory.specs.Certificates.{Certificate, Accepted, kind_of}
@@ -97,27 +97,20 @@ IsUnfound text a status = ((status ≡ 15) × (IsInRange a → ⊥))
     ⊎ (IsInRange a
     × (((status ≡ 12) × IsNoCode text) ⊎ (((status ≡ 13) × IsGivenUp text a) ⊎ (status ≡ 9))))
 
--- the number of a form of relations
-abbrev pub form_number : Form → ℕ
-form_number Short = 0
-form_number Basis = 1
+-- the form of relations of this number
+abbrev pub form_at : ℕ → Form
+form_at form = if form == 0 then Short else Basis
 
--- The text is what is asked for of the quotient, with relations in the form of this number: 0 its
--- description, 1 that for LaTeX, 2 its relations as one word, 3 its description in JSON, 4 and 5 the
--- ideal of its relations for Singular and for GAP.
-pub data IsTextFor (output form : ℕ) (c : Certificate) (text : List ℕ) : Type 0 where
-  Description : (f : Form) → output ≡ 0 → form ≡ form_number f → IsDescription Plain f c text
-      → IsTextFor output form c text
-  ForLatex : (f : Form) → output ≡ 1 → form ≡ form_number f → IsDescription Latex f c text
-      → IsTextFor output form c text
-  Relations : (f : Form) → output ≡ 2 → form ≡ form_number f → IsPresentable c text
-      → IsTextFor output form c text
-  InJson : (f : Form) → output ≡ 3 → form ≡ form_number f → IsDescription Json f c text
-      → IsTextFor output form c text
-  ForSingular : (f : Form) → output ≡ 4 → form ≡ form_number f → IsIdealText Singular f c text
-      → IsTextFor output form c text
-  ForGap : (f : Form) → output ≡ 5 → form ≡ form_number f → IsIdealText Gap f c text
-      → IsTextFor output form c text
+-- The text is what is asked for of the quotient, with relations in this form: 0 its description, 1 that
+-- for LaTeX, 2 its relations as one word, 3 its description in JSON, 4 and 5 the ideal of its relations
+-- for Singular and for GAP.
+pub data IsTextFor (output : ℕ) (form : Form) (c : Certificate) (text : List ℕ) : Type 0 where
+  Description : output ≡ 0 → IsDescription Plain form c text → IsTextFor output form c text
+  ForLatex : output ≡ 1 → IsDescription Latex form c text → IsTextFor output form c text
+  Relations : output ≡ 2 → IsPresentable c text → IsTextFor output form c text
+  InJson : output ≡ 3 → IsDescription Json form c text → IsTextFor output form c text
+  ForSingular : output ≡ 4 → IsIdealText Singular form c text → IsTextFor output form c text
+  ForGap : output ≡ 5 → IsIdealText Gap form c text → IsTextFor output form c text
 
 -- the bytes are an accepted certificate, to which the verdict under the limit is yes, and of which the
 -- rest is true
@@ -127,7 +120,8 @@ Certify bytes limit says =
 
 -- the bytes are certified, and the text is what is asked for of the quotient
 abbrev pub IsTextOf : List ℕ → ℕ → ℕ → ℕ → List ℕ → Type 0
-IsTextOf bytes limit output form text = Certify bytes limit (λ c. IsTextFor output form c text)
+IsTextOf bytes limit output form text =
+    Certify bytes limit (λ c. IsTextFor output (form_at form) c text)
 
 -- the number of a quotient that isn't described: 9 where memory was refused, else 16
 abbrev pub undescribed_number : Undescribed → ℕ

@@ -1,8 +1,8 @@
 //! The description of a certified quotient.
-ghost use Rattle.std.specs.Prelude.{◌≡◌, ◌≢◌, ◌↔◌, ◌≤◌, ◌⊎◌, IfOk, IfErr, IfSome, IsSome, None};
+ghost use Rattle.std.specs.Prelude.{◌≡◌, ◌≢◌, ◌≤◌, ◌⊎◌, IfOk, IfErr, None};
 ghost use Rattle.std.specs.String.{string_bytes};
 ghost use Rattle.descriptions.specs.Described.{IsDescription, IsIdealText};
-ghost use Rattle.solve_library.specs.Found.{IsTextFor, IsTextOf, IsUntold, IsUntoldOf, form_number, undescribed_number};
+ghost use Rattle.solve_library.specs.Found.{IsTextFor, IsTextOf, IsUntold, IsUntoldOf, form_at, undescribed_number};
 
 use crate::numbers::{MEMORY, NOT_DESCRIBED, NOT_IN_RANGE};
 use answers::Certified;
@@ -37,7 +37,7 @@ fn taken(found: RelationsWord) -> Result<String, u32>
 /// The relations of the quotient, as one word that `present` takes.
 fn presentable(alloc: Global, certified: &Certified, form: Form) -> Result<String, u32>
     ensures told { IfOk result
-        (λ t. IsTextFor 2 (form_number form) certified.now (string_bytes t)) }
+        (λ t. IsTextFor 2 form certified.now (string_bytes t)) }
     ensures why { IfErr result (λ s. (s ≡ 16) ⊎ (s ≡ 9)) }
 {
     match relations_word(alloc, certified, form) {
@@ -76,7 +76,7 @@ fn computed(alloc: Global, certified: &Certified, system: System, form: Form) ->
 /// The text that is asked for of the quotient.
 fn text_for(alloc: Global, certified: &Certified, output: u32, form: Form) -> Result<String, u32>
     ensures told { IfOk result
-        (λ t. IsTextFor output (form_number form) certified.now (string_bytes t)) }
+        (λ t. IsTextFor output form certified.now (string_bytes t)) }
     ensures why { IfErr result (IsUntoldOf output) }
 {
     match output {
@@ -91,15 +91,10 @@ fn text_for(alloc: Global, certified: &Certified, output: u32, form: Form) -> Re
 }
 
 /// The form of relations of this number.
-fn form_of(form: u32) -> Option<Form>
-    ensures some { IsSome result ↔ (form ≤ 1) }
-    ensures form { IfSome result (λ f. form ≡ form_number f) }
+fn form_at(form: u32) -> Form
+    ensures { result ≡ form_at form }
 {
-    match form {
-        0 => Some(Form::Short),
-        1 => Some(Form::Basis),
-        _ => None,
-    }
+    if form == 0 { Form::Short } else { Form::Basis }
 }
 
 /// The text that is asked for of the quotient in the form of this number; or the status.
@@ -109,13 +104,14 @@ pub(crate) fn text_by(
     output: u32,
     form: u32,
 ) -> Result<String, u32>
-    ensures told { IfOk result (λ t. IsTextFor output form certified.now (string_bytes t)) }
+    ensures told { IfOk result
+        (λ t. IsTextFor output (form_at form) certified.now (string_bytes t)) }
     ensures why { IfErr result (λ s. ((s ≡ 15) × (2 ≤ form)) ⊎ IsUntoldOf output s) }
 {
-    match form_of(form) {
-        Some(form) => text_for(alloc, certified, output, form),
-        None => Err(NOT_IN_RANGE),
+    if form > 1 {
+        return Err(NOT_IN_RANGE);
     }
+    text_for(alloc, certified, output, form_at(form))
 }
 
 /// The text that is asked for of the quotient that the bytes certify; or the status.
@@ -130,11 +126,11 @@ pub(crate) fn described(
     ensures no { IfErr result (λ s. s ≢ 0 × s ≢ 14) }
     ensures why { IfErr result (IsUntold bytes.now limit output form) }
 {
-    let Some(form) = form_of(form) else {
+    if form > 1 {
         return Err(NOT_IN_RANGE);
-    };
+    }
     match check(alloc, bytes, limit) {
-        Ok(certified) => text_for(alloc, &certified, output, form),
+        Ok(certified) => text_by(alloc, &certified, output, form),
         Err(refusal) => Err(refusal.number() as u32),
     }
 }

@@ -8,3 +8,7 @@ returns-in-Ok-clause-responds g c =
     (g.S.Source.left c.args.input.now) (g.F.Folder.files c.args.folder.now)
     (g.F.Folder.files c.say.new.folder) (request_of c.args.plan) c.in-Ok.said.text.items
     c.in-Ok.said.succeeds c.in-Ok.ensures.says))
+
+pub returns-in-Describe-clause-responds : goal.returns-in-Describe-clause-responds
+returns-in-Describe-clause-responds g c =
+    rw (c.in-Describe.is) (rw (c.form_of.ensures) at c.describe.ensures.describes)
