@@ -79,18 +79,18 @@ bf=ab c^2f=ab^2 d^2f=f f^2=b^2 b^2g=g c^2g=g dg=cg eg=cg fg=ag g^2=b^2 e^4=e^2 f
     Formed {
         output: 4,
         form: 0,
-        beginning: "// Q_27(0.77), of order 40: vdim(std(I))\nring R = 0,(g,f,e,d,c,b,a),dp;\nideal I =\n\
-  a^2-1,\n  c^3-c,\n  c*d-b^2,\n  d^3-d,\n  c*e-b^2,\n  e^2-d*e,\n  b*f-a*b,\n  d^2*f-f,\n\
-  f^2-b^2,\n  f*g-a*g,\n  g^2-b^2;\n",
+        beginning: "// Q_27(0.77), of order 40: vdim(std(I))\nring R = 0,(g,f,e,d,c,b,a),dp;\nideal I =\n  \
+a^2-1,\n  c^3-c,\n  c*d-b^2,\n  d^3-d,\n  c*e-b^2,\n  e^2-d*e,\n  b*f-a*b,\n  d^2*f-f,\n  \
+f^2-b^2,\n  f*g-a*g,\n  g^2-b^2;\n",
         end: "",
     },
     Formed {
         output: 4,
         form: 1,
-        beginning: "// Q_27(0.77), of order 40: vdim(std(I))\nring R = 0,(g,f,e,d,c,b,a),dp;\nideal I =\n\
-  a^2-1,\n  b^3-b,\n  b^2*c-a*c*f,\n  b*c^2-b,\n  c^3-c,\n  b*d-b*c,\n  c*d-b^2,\n  d^3-d,\n\
-  b*e-b*c,\n  c*e-b^2,\n  e^2-d*e,\n  b*f-a*b,\n  c^2*f-a*b^2,\n  d^2*f-f,\n  f^2-b^2,\n\
-  b^2*g-g,\n  c^2*g-g,\n  d*g-c*g,\n  e*g-c*g,\n  f*g-a*g,\n  g^2-b^2;\n",
+        beginning: "// Q_27(0.77), of order 40: vdim(std(I))\nring R = 0,(g,f,e,d,c,b,a),dp;\nideal I =\n  \
+a^2-1,\n  b^3-b,\n  b^2*c-a*c*f,\n  b*c^2-b,\n  c^3-c,\n  b*d-b*c,\n  c*d-b^2,\n  d^3-d,\n  \
+b*e-b*c,\n  c*e-b^2,\n  e^2-d*e,\n  b*f-a*b,\n  c^2*f-a*b^2,\n  d^2*f-f,\n  f^2-b^2,\n  \
+b^2*g-g,\n  c^2*g-g,\n  d*g-c*g,\n  e*g-c*g,\n  f*g-a*g,\n  g^2-b^2;\n",
         end: "",
     },
     Formed {
@@ -98,8 +98,8 @@ bf=ab c^2f=ab^2 d^2f=f f^2=b^2 b^2g=g c^2g=g dg=cg eg=cg fg=ag g^2=b^2 e^4=e^2 f
         form: 0,
         beginning: "# Q_27(0.77), of order 40: ReducedGroebnerBasis(I, O)\n\
 g := Indeterminate(Rationals, \"g\" : new);;\n",
-        end: "I := [\n  a^2-1,\n  c^3-c,\n  c*d-b^2,\n  d^3-d,\n  c*e-b^2,\n  e^2-d*e,\n  b*f-a*b,\n\
-  d^2*f-f,\n  f^2-b^2,\n  f*g-a*g,\n  g^2-b^2];;\nO := MonomialGrevlexOrdering(g,f,e,d,c,b,a);;\n",
+        end: "I := [\n  a^2-1,\n  c^3-c,\n  c*d-b^2,\n  d^3-d,\n  c*e-b^2,\n  e^2-d*e,\n  b*f-a*b,\n  \
+d^2*f-f,\n  f^2-b^2,\n  f*g-a*g,\n  g^2-b^2];;\nO := MonomialGrevlexOrdering(g,f,e,d,c,b,a);;\n",
     },
     Formed {
         output: 5,

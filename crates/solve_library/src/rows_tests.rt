@@ -127,7 +127,7 @@ static DESCRIPTIONS: [Description; 9] = [
         0,
         "a^2=1 b^3=b bc=ab c^2=b^2 c^4=c^2",
     ),
-    Description(OF_0_75, [LIMIT, 3, 0], 15, ""),
+    Description(OF_0_75, [LIMIT, 6, 0], 15, ""),
     Description(OF_0_75, [LIMIT, 0, 2], 15, ""),
     Description(OF_0_75, [1, 0, 0], 8, ""),
     Description(LAWLESS, [LIMIT, 0, 0], 2, ""),

@@ -70,7 +70,7 @@ fn quotients_are_described(rt: HostRuntime) {
     assert_eq!(&rt; count, 5);
     assert_eq!(&rt; told[0], b'a');
     assert_eq!(&rt;
-        misere_describe(alloc, BYTES, 100, 3, 0, &mut told, &mut count),
+        misere_describe(alloc, BYTES, 100, 6, 0, &mut told, &mut count),
         15
     );
     assert_eq!(&rt;
