@@ -3,8 +3,7 @@ use Rattle.std.proofs.Common.{◌≡◌, ℕ, ◌*◌, ◌^◌, ◌≤◌, ◌�
 use Rattle.misere_theory.specs.Quotients.{Monoid, Represents}
 use Rattle.misere_theory.specs.Certificates.{Certificate, kind_of, IsHeapOf, Accepted, Canonical, claim_of, times_of}
 use Rattle.misere_theory.specs.Verdicts.{Verdict, IsAllowed}
-use Rattle.misere_theory.specs.Verdicts.Verdict.{Faulty, Fails, Over}
-use Rattle.misere_theory.proofs.Verdicts.{right_or_over, fails_or_over, never_past_all_pairs}
+use Rattle.misere_theory.proofs.Verdicts.{yes_or_limit, outcome_or_limit, never_past_all_pairs}
 use Rattle.certificate_text.specs.Spelling.{Spells}
 use Rattle.answers.specs.ByteVerdicts.{ByteVerdict, Fits, Holds, IsTrueOf}
 use Rattle.answers.specs.ByteVerdicts.ByteVerdict.{Yes, Text, No, Outcome, Limit, Memory}
@@ -19,27 +18,27 @@ module _ (one : (b : List ℕ) (c d : Certificate) → Spells b c → Spells b d
   accepted_answers k (Yes d) t = inl (ap Yes (fits (Yes d) t).0)
   accepted_answers k Text t = absurd (t c s)
   accepted_answers k (No fault) t =
-      elim (right_or_over c k limit (Faulty fault) (fits (No fault) t))
+      elim (yes_or_limit c k limit (Verdict.No fault) (fits (No fault) t))
       [ inl e ↦ absurd (cc) | inr e ↦ absurd (cc) ]
   accepted_answers k (Outcome code X) t =
-      elim (right_or_over c k limit (Fails X) (fits (Outcome code X) t).1)
+      elim (yes_or_limit c k limit (Verdict.Outcome X) (fits (Outcome code X) t).1)
       [ inl e ↦ absurd (cc) | inr e ↦ absurd (cc) ]
   accepted_answers k Limit t = inr (inl refl)
   accepted_answers k Memory t = inr (inr refl)
 
   module _ (m : Monoid c.order (times_of c)) (k : Canonical c)
       (wrong : Represents (IsHeapOf c) c.code (claim_of c) → ⊥) where
-    faulty_never : {A : Type 0} (v : Verdict) → ((X : List ℕ) → v ≡ Fails X → ⊥) → (v ≡ Over → ⊥)
+    never_a_fault : {A : Type 0} (v : Verdict) → ((X : List ℕ) → v ≡ Verdict.Outcome X → ⊥) → (v ≡ Verdict.Limit → ⊥)
         → IsAllowed c limit v → A
-    faulty_never v n o h =
-        elim (fails_or_over c s.writable.in_ranges m k wrong limit v h)
+    never_a_fault v n o h =
+        elim (outcome_or_limit c s.writable.in_ranges m k wrong limit v h)
         [ inl p ↦ absurd (n p.0 p.1) | inr e ↦ absurd (o e) ]
 
     pub wrong_answers : (a : ByteVerdict) → Holds bytes limit a → ((X : List ℕ) × (a ≡ Outcome c.code X))
         ⊎ ((a ≡ Limit) ⊎ (a ≡ Memory))
     wrong_answers (Yes d) t = absurd (wrong (fits (Yes d) t).1.represents)
     wrong_answers Text t = absurd (t c s)
-    wrong_answers (No fault) t = faulty_never (Faulty fault) (λ X e. cc) (λ e. cc) (fits (No fault) t)
+    wrong_answers (No fault) t = never_a_fault (Verdict.No fault) (λ X e. cc) (λ e. cc) (fits (No fault) t)
     wrong_answers (Outcome code X) t = inl (X, ap (λ d. Outcome d X) (fits (Outcome code X) t).0)
     wrong_answers Limit t = inr (inl refl)
     wrong_answers Memory t = inr (inr refl)

@@ -2,9 +2,8 @@
 use Rattle.std.specs.Prelude.{◌≡◌, ◌≢◌, ◌⊎◌, ℕ, ◌≤◌, ◌*◌, ◌^◌, List, Result, Ok, Err}
 use Rattle.misere_theory.specs.Quotients.{Monoid, Represents}
 use Rattle.misere_theory.specs.Certificates.{Certificate, kind_of, IsHeapOf, Accepted, Canonical, claim_of, times_of}
-use Rattle.misere_theory.specs.Verdicts.{Fault, IsAllowed}
+use Rattle.misere_theory.specs.Verdicts.{Fault, Verdict, IsAllowed}
 use Rattle.misere_theory.specs.Verdicts.Fault.{Law, Word, Order, Period, Apart}
-use Rattle.misere_theory.specs.Verdicts.Verdict.{Right, Faulty, Fails, Over}
 use Rattle.certificate_text.specs.Spelling.{Spells}
 use Rattle.answers.specs.declared.refusal.Refusal.{Refusal}
 use Rattle.answers.specs.declared.refusal.Refusal.TheVariants as no
@@ -36,11 +35,11 @@ answer_of (Err r) = refused r
 
 -- The answer is true of the certificate c.
 abbrev pub Fits : Certificate → ℕ → ByteVerdict → Type 0
-Fits c limit (Yes d) = (d ≡ c) × IsAllowed c limit Right
+Fits c limit (Yes d) = (d ≡ c) × IsAllowed c limit Verdict.Yes
 Fits c limit Text = ⊥
-Fits c limit (No fault) = IsAllowed c limit (Faulty fault)
-Fits c limit (Outcome code X) = (code ≡ c.code) × IsAllowed c limit (Fails X)
-Fits c limit Limit = IsAllowed c limit Over
+Fits c limit (No fault) = IsAllowed c limit (Verdict.No fault)
+Fits c limit (Outcome code X) = (code ≡ c.code) × IsAllowed c limit (Verdict.Outcome X)
+Fits c limit Limit = IsAllowed c limit Verdict.Limit
 Fits c limit Memory = Unit {0}
 
 -- The bytes spell a certificate of which the answer is true.

@@ -7,7 +7,7 @@ use Rattle.misere_theory.specs.Quotients.{Monoid, Represents, RuleFails, GivesEl
 use Rattle.misere_theory.specs.Certificates.{Certificate, claim_of, times_of, kind_of, IsHeapOf, InRanges, Canonical, Accepted}
 use Rattle.misere_theory.specs.Verdicts.{Fault, fault_number, HasFault, Verdict, IsAllowed}
 use Rattle.misere_theory.specs.Verdicts.Fault.{Law, Word, Order, Period, Apart}
-use Rattle.misere_theory.specs.Verdicts.Verdict.{Right, Faulty, Fails, Over}
+use Rattle.misere_theory.specs.Verdicts.Verdict.{Yes, No, Outcome, Limit}
 use Rattle.misere_theory.proofs.Basics.{neither_smaller}
 use Rattle.misere_theory.proofs.Counting.{kept_in}
 use Rattle.misere_theory.proofs.Rules.{predicts_from_rule, rule_from_predicts, rule_decided, rule_not_both, represents}
@@ -50,12 +50,12 @@ module _ (c : Certificate) (a : Accepted c) where
       (rule_from_predicts (IsHeapOf c) c.code (claim_of c) (kept_in (kind_of c) c.code) a.represents.predicts X p)
       f
 
-  pub right_or_over : (limit : ℕ) (v : Verdict) → IsAllowed c limit v → (v ≡ Right) ⊎ (v ≡ Over)
-  right_or_over limit Right h = inl refl
-  right_or_over limit (Faulty fault) h =
+  pub yes_or_limit : (limit : ℕ) (v : Verdict) → IsAllowed c limit v → (v ≡ Yes) ⊎ (v ≡ Limit)
+  yes_or_limit limit Yes h = inl refl
+  yes_or_limit limit (No fault) h =
       absurd (no_fault c a.in_ranges a.represents.monoid a.canonical fault h.0)
-  right_or_over limit (Fails X) h = absurd (never_fails X h.2 h.3)
-  right_or_over limit Over h = inr refl
+  yes_or_limit limit (Outcome X) h = absurd (never_fails X h.2 h.3)
+  yes_or_limit limit Limit h = inr refl
 
 module _ (c : Certificate) (r : InRanges c) (m : Monoid c.order (times_of c)) (k : Canonical c)
   where
@@ -88,16 +88,16 @@ module _ (c : Certificate) (r : InRanges c) (m : Monoid c.order (times_of c)) (k
           | inr fails ↦ inr fails
         ]
 
-    pub fails_or_over : (Represents (IsHeapOf c) c.code (claim_of c) → ⊥) → (limit : ℕ) (v : Verdict)
+    pub outcome_or_limit : (Represents (IsHeapOf c) c.code (claim_of c) → ⊥) → (limit : ℕ) (v : Verdict)
         → IsAllowed c limit v
-        → ((X : List ℕ) × (v ≡ Fails X)) ⊎ (v ≡ Over)
-    fails_or_over not limit Right h = absurd (not h.represents)
-    fails_or_over not limit (Faulty fault) h = absurd (no_fault c r m k fault h.0)
-    fails_or_over not limit (Fails X) h = inl (X, refl)
-    fails_or_over not limit Over h = inr refl
+        → ((X : List ℕ) × (v ≡ Outcome X)) ⊎ (v ≡ Limit)
+    outcome_or_limit not limit Yes h = absurd (not h.represents)
+    outcome_or_limit not limit (No fault) h = absurd (no_fault c r m k fault h.0)
+    outcome_or_limit not limit (Outcome X) h = inl (X, refl)
+    outcome_or_limit not limit Limit h = inr refl
 
 pub never_past_all_pairs : (c : Certificate) → InRanges c → (limit : ℕ)
-    → c.order * 2 ^ c.order ≤ limit → IsAllowed c limit Over → ⊥
+    → c.order * 2 ^ c.order ≤ limit → IsAllowed c limit Limit → ⊥
 never_past_all_pairs c r limit l h =
     let b =
     reach_bound (IsHeapOf c) c.code (kept_in (kind_of c) c.code) (claim_of c) h.0 (λ n _. phi_in c r n) limit
@@ -106,14 +106,14 @@ never_past_all_pairs c r limit l h =
 
 -- a certificate with a fault has one first fault, and no other answer
 pub fault_alone : (c : Certificate) → InRanges c → (fault : Fault) (limit other : ℕ) (v : Verdict)
-    → IsAllowed c limit (Faulty fault)
-    → IsAllowed c other v → v ≡ Faulty fault
-fault_alone c r fault limit other Right h a =
+    → IsAllowed c limit (No fault)
+    → IsAllowed c other v → v ≡ No fault
+fault_alone c r fault limit other Yes h a =
     absurd (no_fault c r a.represents.monoid a.canonical fault h.0)
-fault_alone c r fault limit other (Faulty found) h a =
+fault_alone c r fault limit other (No found) h a =
     let not_less : fault_number found < fault_number fault → ⊥ = λ l. h.1 found l a.0 in
     let not_more : fault_number fault < fault_number found → ⊥ = λ l. a.1 fault l h.0 in
-    ap Faulty (same_number found fault
+    ap No (same_number found fault
     (neither_smaller (fault_number found) (fault_number fault) not_less not_more))
-fault_alone c r fault limit other (Fails X) h a = absurd (no_fault c r a.0 a.1 fault h.0)
-fault_alone c r fault limit other Over h a = absurd (no_fault c r a.0 a.1 fault h.0)
+fault_alone c r fault limit other (Outcome X) h a = absurd (no_fault c r a.0 a.1 fault h.0)
+fault_alone c r fault limit other Limit h a = absurd (no_fault c r a.0 a.1 fault h.0)

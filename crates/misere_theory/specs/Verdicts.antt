@@ -37,20 +37,20 @@ IsFirstFault c fault =
 -- The answers to a certificate whose text could be read: yes, a fault in its numbers, a position
 -- where the rule fails, or too many transition pairs.
 pub data Verdict : Type 0 where
-  Right : Verdict
-  Faulty : Fault → Verdict
-  Fails : List ℕ → Verdict
-  Over : Verdict
+  Yes : Verdict
+  No : Fault → Verdict
+  Outcome : List ℕ → Verdict
+  Limit : Verdict
 
 -- Which answers are true of a certificate in its ranges: yes where it is accepted; a fault where it
 -- is the first; and for a canonical certificate of a monoid a position where the rule fails, or
 -- that positions have more than limit different transition pairs.
 abbrev pub IsAllowed : Certificate → ℕ → Verdict → Type 0
-IsAllowed c limit Right = Accepted c
-IsAllowed c limit (Faulty fault) = IsFirstFault c fault
-IsAllowed c limit (Fails X) =
+IsAllowed c limit Yes = Accepted c
+IsAllowed c limit (No fault) = IsFirstFault c fault
+IsAllowed c limit (Outcome X) =
     Monoid c.order (times_of c) × Canonical c × IsPosition (IsHeapOf c) X
     × RuleFails c.code (claim_of c) X
-IsAllowed c limit Over =
+IsAllowed c limit Limit =
     Monoid c.order (times_of c) × Canonical c
     × ReachesMoreThan (IsHeapOf c) c.code (claim_of c) limit

@@ -9,7 +9,7 @@ ghost use Rattle.misere_theory.specs.Games.{is_octal, IsHeap, IsHeapUpTo, IsPosi
 ghost use Rattle.misere_theory.specs.Pairs.{Pair, IsClosed, KeptObey, ElementsObey, heap_bound};
 ghost use Rattle.misere_theory.specs.Quotients.{Monoid, Represents, RuleFails, value};
 ghost use Rattle.misere_theory.specs.Verdicts.{Fault, HasFault, Verdict, IsAllowed};
-ghost use Rattle.misere_theory.specs.Verdicts.Verdict.{Right, Faulty, Fails, Over};
+ghost use Rattle.misere_theory.specs.Verdicts.Verdict.{Yes, No, Outcome, Limit};
 
 /// The three laws, tested at all elements, make the table of a certificate in its ranges a
 /// commutative monoid.
@@ -106,30 +106,30 @@ pub fn accepted_certificates_obey_the_rule()
         ⊎ ((X : List ℕ) × IsPosition (IsHeapOf c) X × RuleFails c.code (claim_of c) X) }
 {}
 
-/// Accepted certificates get Right or Over; canonical ones of a monoid that isn't the quotient
-/// Fails or Over; a certificate with a fault its first fault alone; and no certificate gets
-/// Over where the limit is order * 2 ^ order or more.
+/// Accepted certificates get Yes or Limit; canonical ones of a monoid that isn't the quotient
+/// Outcome or Limit; a certificate with a fault its first fault alone; and no certificate gets
+/// Limit where the limit is order * 2 ^ order or more.
 pub fn true_answers_are_few()
     ensures accepted { (c : Certificate) (limit : ℕ) (answer : Verdict)
         → Accepted c
         → IsAllowed c limit answer
-        → (answer ≡ Right) ⊎ (answer ≡ Over) }
+        → (answer ≡ Yes) ⊎ (answer ≡ Limit) }
     ensures wrong { (c : Certificate) (limit : ℕ) (answer : Verdict)
         → InRanges c
         → Monoid c.order (times_of c)
         → Canonical c
         → (Represents (IsHeapOf c) c.code (claim_of c) → ⊥)
         → IsAllowed c limit answer
-        → ((X : List ℕ) × (answer ≡ Fails X)) ⊎ (answer ≡ Over) }
+        → ((X : List ℕ) × (answer ≡ Outcome X)) ⊎ (answer ≡ Limit) }
     ensures faulty { (c : Certificate) (fault : Fault) (limit other : ℕ) (answer : Verdict)
         → InRanges c
-        → IsAllowed c limit (Faulty fault)
+        → IsAllowed c limit (No fault)
         → IsAllowed c other answer
-        → answer ≡ Faulty fault }
+        → answer ≡ No fault }
     ensures within { (c : Certificate) (limit : ℕ)
         → InRanges c
         → c.order * 2 ^ c.order ≤ limit
-        → IsAllowed c limit Over → ⊥ }
+        → IsAllowed c limit Limit → ⊥ }
 {}
 
 /// A code has one accepted certificate of each kind at most: a full one, and for each last heap a

@@ -11,10 +11,9 @@
 //! | `specs/Pairs` | transition pairs, covers, closed lists, the bound on heaps |
 //! | `specs/Kinds` | whole games and their parts: which heaps count, and which show all pairs |
 //! | `specs/Numbering` | least periods, least keys |
-//! | `specs/Certificates` | the numbers of a certificate, their ranges, when it is canonical and
-//! accepted |
-//! | `specs/Faults`, `specs/Verdicts` | each fault of a certificate, and which answers are true of
-//! it |
+//! | `specs/Certificates` | the numbers of a certificate, their ranges, what is canonical, accepted |
+//! | `specs/Faults` | each fault of a certificate |
+//! | `specs/Verdicts` | which answers are true of a certificate |
 //! | `specs/Plays` | reachable positions, first winning moves, plays that answer by them |
 //! | `src/` | the laws, by the same topics |
 //! | `proofs/` | the lemmas, a file for each idea, and beside them a folder for each law |
@@ -29,8 +28,7 @@ pub mod quotients;
 /// The largest order of a certificate: how many elements a monoid has at most.
 pub const LARGEST_ORDER: u16 = 4096;
 
-/// The largest order of a certificate in the first format, of a presentation's table, and of what is
-/// searched for.
+/// The largest order of a certificate in the first format and of a presentation's table.
 pub const LARGEST_FIRST_ORDER: u16 = 256;
 
 /// The largest order of a certificate in the second format.
