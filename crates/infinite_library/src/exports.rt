@@ -1,0 +1,159 @@
+//! The calls on infinite quotients.
+ghost use Rattle.std.specs.List.Sorted.{IsNonDecreasing};
+ghost use Rattle.std.specs.Prelude.{◌≡◌, ◌≢◌, ◌≤◌, ◌<◌, ℕ, List, IsPermutation, length, take};
+ghost use Rattle.std.specs.declared.option.Option.TheVariants.{None, Some};
+ghost use Rattle.infinite_queries.specs.Asked.{AreNoAnswers, AreRefused, AreShown, FailsAt, IsNoAnswer, IsNoAnswerToMany, IsOpened, IsUnopened, IsUnshared, TellsAnswer, TellsOutcome};
+ghost use Rattle.infinite_queries.specs.Many.{TellAll};
+
+use infinite_queries::{
+    MisereAnswer, answer, answers, check, close, failure, open, outcome, outcomes, share,
+};
+use opened_infinite::OpenedInfinite;
+use std::alloc::Global;
+
+/// Whether the bytes are an accepted certificate of an infinite quotient: 0, or the number of the
+/// refusal.
+#[unsafe(no_mangle)]
+pub extern "C" fn misere_check_infinite(alloc: Global, bytes: &[u8], limit: u32) -> u32
+    ensures yes { result ≡ 0 → AreShown bytes.now (λ k. Unit {0}) }
+    ensures no { result ≢ 0 → AreRefused bytes.now result }
+{
+    check(alloc, bytes, limit)
+}
+
+/// Checks the bytes, and where the rule of the code's game fails at a position tells how many heaps
+/// it has, and which, if there is room for them.
+#[unsafe(no_mangle)]
+pub extern "C" fn misere_infinite_failure(
+    alloc: Global,
+    bytes: &[u8],
+    limit: u32,
+    told: &mut [u64],
+    count: &mut u64,
+) -> u32
+    ensures yes { result ≡ 0 → AreShown bytes.now (λ k. Unit {0}) }
+    ensures no { result ≢ 0 → AreRefused bytes.now result }
+    ensures fails { result ≡ 7 → count.new ≤ length told.old
+        → FailsAt bytes.now (take count.new told.new) }
+    ensures counts { result ≡ 7 → (X : List ℕ) × FailsAt bytes.now X × (count.new ≡ length X) }
+    ensures no_room { length told.old < count.new → told.new ≡ told.old }
+    ensures stays { result ≢ 7 → told.new ≡ told.old × count.new ≡ count.old }
+{
+    failure(alloc, bytes, limit, told, count)
+}
+
+/// Opens the infinite quotient that the bytes show, in place of what was opened there: 0, or the number
+/// of the refusal. The bytes aren't needed any more.
+#[unsafe(no_mangle)]
+pub extern "C" fn misere_infinite_open(
+    alloc: Global,
+    bytes: &[u8],
+    limit: u32,
+    told: &mut OpenedInfinite,
+) -> u32
+    ensures yes { result ≡ 0 → AreShown bytes.now (λ k. told.new.handle.value ≡ Some k) }
+    ensures no { result ≢ 0 → AreRefused bytes.now result }
+    ensures stays { result ≢ 0 → told.new ≡ told.old }
+{
+    open(alloc, bytes, limit, told)
+}
+
+/// Makes a second owner of what is opened, in place of what was opened there.
+#[unsafe(no_mangle)]
+pub extern "C" fn misere_infinite_share(
+    alloc: Global,
+    opened: &mut OpenedInfinite,
+    told: &mut OpenedInfinite,
+) -> u32
+    ensures yes { result ≡ 0 → IsOpened opened.old.handle.value (λ k. told.new.handle.value ≡ Some k) }
+    ensures no { result ≢ 0 → IsUnshared opened.old.handle.value result }
+    ensures same { opened.new.handle.value ≡ opened.old.handle.value }
+    ensures stays { result ≢ 0 → told.new ≡ told.old }
+{
+    share(alloc, opened, told)
+}
+
+/// Closes what is opened: 0, or the number for nothing that is opened.
+#[unsafe(no_mangle)]
+pub extern "C" fn misere_infinite_close(alloc: Global, opened: &mut OpenedInfinite) -> u32
+    ensures closed { opened.new.handle.value ≡ None }
+    ensures yes { result ≡ 0 → IsOpened opened.old.handle.value (λ k. Unit {0}) }
+    ensures no { result ≢ 0 → IsUnopened opened.old.handle.value result }
+{
+    close(alloc, opened)
+}
+
+/// Tells who wins the position of the heaps under misère play: 0 where the player who has just moved
+/// does, and 1 where the next one does. It takes no memory.
+#[unsafe(no_mangle)]
+pub extern "C" fn misere_infinite_outcome(
+    alloc: Global,
+    opened: &mut OpenedInfinite,
+    heaps: &[u64],
+    told: &mut u32,
+) -> u32
+    ensures yes { result ≡ 0 → IsOpened opened.old.handle.value (TellsOutcome heaps.now told.new) }
+    ensures no { result ≢ 0 → IsNoAnswer opened.old.handle.value heaps.now result }
+    ensures same { opened.new.handle.value ≡ opened.old.handle.value }
+    ensures stays { result ≢ 0 → told.new ≡ told.old }
+{
+    outcome(alloc, opened, heaps, told)
+}
+
+/// Tells what to do in the position of the heaps: the first winning move, where there is one. Then
+/// the heaps stand rising in their own memory, and it takes no other.
+#[unsafe(no_mangle)]
+pub extern "C" fn misere_infinite_answer(
+    alloc: Global,
+    opened: &mut OpenedInfinite,
+    heaps: &mut [u64],
+    told: &mut MisereAnswer,
+) -> u32
+    ensures yes { result ≡ 0 → IsOpened opened.old.handle.value (TellsAnswer heaps.old told.new) }
+    ensures heaps { result ≡ 0 → IsPermutation heaps.old heaps.new }
+    ensures rising { result ≡ 0 → IsNonDecreasing heaps.new }
+    ensures no { result ≢ 0 → IsNoAnswer opened.old.handle.value heaps.old result }
+    ensures same { opened.new.handle.value ≡ opened.old.handle.value }
+    ensures stays { result ≢ 0 → told.new ≡ told.old × heaps.new ≡ heaps.old }
+{
+    answer(alloc, opened, heaps, told)
+}
+
+/// Tells the outcome of each of many positions: of the heaps before the first of the ends, of those
+/// from there to before the second, and so on. It takes no memory.
+#[unsafe(no_mangle)]
+pub extern "C" fn misere_infinite_outcomes(
+    alloc: Global,
+    opened: &mut OpenedInfinite,
+    heaps: &[u64],
+    ends: &[u64],
+    told: &mut [u32],
+) -> u32
+    ensures yes { result ≡ 0
+        → IsOpened opened.old.handle.value (TellAll TellsOutcome heaps.now ends.now told.new) }
+    ensures no { result ≢ 0
+        → IsNoAnswerToMany opened.old.handle.value heaps.now ends.now (length told.old) result }
+    ensures same { opened.new.handle.value ≡ opened.old.handle.value }
+    ensures stays { result ≢ 0 → told.new ≡ told.old }
+{
+    outcomes(alloc, opened, heaps, ends, told)
+}
+
+/// Tells what to do in each of many positions, which stand as for `misere_infinite_outcomes`.
+#[unsafe(no_mangle)]
+pub extern "C" fn misere_infinite_answers(
+    alloc: Global,
+    opened: &mut OpenedInfinite,
+    heaps: &[u64],
+    ends: &[u64],
+    told: &mut [MisereAnswer],
+) -> u32
+    ensures yes { result ≡ 0
+        → IsOpened opened.old.handle.value (TellAll TellsAnswer heaps.now ends.now told.new) }
+    ensures no { result ≢ 0
+        → AreNoAnswers opened.old.handle.value heaps.now ends.now (length told.old) result }
+    ensures same { opened.new.handle.value ≡ opened.old.handle.value }
+    ensures stays { result ≢ 0 → told.new ≡ told.old }
+{
+    answers(alloc, opened, heaps, ends, told)
+}

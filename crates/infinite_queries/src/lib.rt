@@ -1,0 +1,18 @@
+//! What is asked of an infinite quotient, in numbers, as it is asked from C: by the bytes of its
+//! certificate, or once these were opened. The static library `infinite_library` hands it out.
+//!
+//! What is opened was checked once, and keeps the checker's theorem. The caller owns all other memory.
+#![tactic(auto)]
+
+mod asking;
+mod bytes;
+mod heaps;
+mod many;
+mod numbers;
+mod opening;
+mod queries;
+
+pub use bytes::{check, failure};
+pub use numbers::MisereAnswer;
+pub use opening::{close, open, share};
+pub use queries::{answer, answers, outcome, outcomes};

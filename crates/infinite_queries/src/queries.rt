@@ -1,0 +1,141 @@
+//! What is asked of an infinite quotient that was opened.
+ghost use Rattle.std.specs.List.Sorted.{IsNonDecreasing};
+ghost use Rattle.std.specs.Prelude.{◌≡◌, ◌≢◌, IfOk, IfErr, OnOk, OnErr, IsPermutation, length};
+ghost use Rattle.infinite_queries.specs.Asked.{AreNoAnswers, IsNoAnswer, IsNoAnswerToMany, IsOpened, TellsAnswer, TellsOutcome};
+ghost use Rattle.infinite_queries.specs.Many.{TellAll};
+
+use crate::asking::{answer_in, outcome_in};
+use crate::many::{answers_in, outcomes_in};
+use crate::numbers::{DONE, MisereAnswer, NOT_OPEN};
+use opened_infinite::OpenedInfinite;
+use std::alloc::Global;
+
+/// The outcome of the position of the heaps, by what is opened.
+fn outcome_by(alloc: Global, opened: &mut OpenedInfinite, heaps: &[u64]) -> Result<u32, u32>
+    ensures yes { IfOk result (λ n. IsOpened opened.old.handle.value (TellsOutcome heaps.now n)) }
+    ensures no { IfErr result (λ s. s ≢ 0 × IsNoAnswer opened.old.handle.value heaps.now s) }
+    ensures same { opened.new.handle.value ≡ opened.old.handle.value }
+{
+    let Some(quotient) = opened.take(alloc) else {
+        return Err(NOT_OPEN);
+    };
+    let told = outcome_in(quotient.shown(), heaps);
+    opened.put(alloc, quotient);
+    told
+}
+
+/// Tells who wins the position of the heaps under misère play: 0 where the player who has just moved
+/// does, and 1 where the next one does. It takes no memory.
+pub fn outcome(alloc: Global, opened: &mut OpenedInfinite, heaps: &[u64], told: &mut u32) -> u32
+    ensures yes { result ≡ 0 → IsOpened opened.old.handle.value (TellsOutcome heaps.now told.new) }
+    ensures no { result ≢ 0 → IsNoAnswer opened.old.handle.value heaps.now result }
+    ensures same { opened.new.handle.value ≡ opened.old.handle.value }
+    ensures stays { result ≢ 0 → told.new ≡ told.old }
+{
+    match outcome_by(alloc, opened, heaps) {
+        Ok(number) => {
+            *told = number;
+            DONE
+        }
+        Err(status) => status,
+    }
+}
+
+/// The answer in the position of the heaps, by what is opened. They stand rising afterwards.
+fn answer_by(
+    alloc: Global,
+    opened: &mut OpenedInfinite,
+    heaps: &mut [u64],
+) -> Result<MisereAnswer, u32>
+    ensures yes { IfOk result (λ n. IsOpened opened.old.handle.value (TellsAnswer heaps.old n)) }
+    ensures heaps { OnOk result (IsPermutation heaps.old heaps.new) }
+    ensures rising { OnOk result (IsNonDecreasing heaps.new) }
+    ensures no { IfErr result (λ s. s ≢ 0 × IsNoAnswer opened.old.handle.value heaps.old s) }
+    ensures same { opened.new.handle.value ≡ opened.old.handle.value }
+    ensures stays { OnErr result (heaps.new ≡ heaps.old) }
+{
+    let Some(quotient) = opened.take(alloc) else {
+        return Err(NOT_OPEN);
+    };
+    let told = answer_in(quotient.shown(), heaps);
+    opened.put(alloc, quotient);
+    told
+}
+
+/// Tells what to do in the position of the heaps: the first winning move, where there is one. Then
+/// the heaps stand rising in their own memory, and it takes no other.
+pub fn answer(
+    alloc: Global,
+    opened: &mut OpenedInfinite,
+    heaps: &mut [u64],
+    told: &mut MisereAnswer,
+) -> u32
+    ensures yes { result ≡ 0 → IsOpened opened.old.handle.value (TellsAnswer heaps.old told.new) }
+    ensures heaps { result ≡ 0 → IsPermutation heaps.old heaps.new }
+    ensures rising { result ≡ 0 → IsNonDecreasing heaps.new }
+    ensures no { result ≢ 0 → IsNoAnswer opened.old.handle.value heaps.old result }
+    ensures same { opened.new.handle.value ≡ opened.old.handle.value }
+    ensures stays { result ≢ 0 → told.new ≡ told.old × heaps.new ≡ heaps.old }
+{
+    match answer_by(alloc, opened, heaps) {
+        Ok(made) => {
+            *told = made;
+            DONE
+        }
+        Err(status) => status,
+    }
+}
+
+/// Tells the outcome of each of many positions: of the heaps before the first of the ends, of those
+/// from there to before the second, and so on. It takes no memory.
+pub fn outcomes(
+    alloc: Global,
+    opened: &mut OpenedInfinite,
+    heaps: &[u64],
+    ends: &[u64],
+    told: &mut [u32],
+) -> u32
+    ensures yes { result ≡ 0
+        → IsOpened opened.old.handle.value (TellAll TellsOutcome heaps.now ends.now told.new) }
+    ensures no { result ≢ 0
+        → IsNoAnswerToMany opened.old.handle.value heaps.now ends.now (length told.old) result }
+    ensures same { opened.new.handle.value ≡ opened.old.handle.value }
+    ensures stays { result ≢ 0 → told.new ≡ told.old }
+{
+    let Some(quotient) = opened.take(alloc) else {
+        return NOT_OPEN;
+    };
+    let status = outcomes_in(quotient.shown(), heaps, ends, told);
+    opened.put(alloc, quotient);
+    status
+}
+
+/// Tells what to do in each of many positions, which stand as for `outcomes`. Where memory is refused on
+/// the way, none is told.
+pub fn answers(
+    alloc: Global,
+    opened: &mut OpenedInfinite,
+    heaps: &[u64],
+    ends: &[u64],
+    told: &mut [MisereAnswer],
+) -> u32
+    ensures yes { result ≡ 0
+        → IsOpened opened.old.handle.value (TellAll TellsAnswer heaps.now ends.now told.new) }
+    ensures no { result ≢ 0
+        → AreNoAnswers opened.old.handle.value heaps.now ends.now (length told.old) result }
+    ensures same { opened.new.handle.value ≡ opened.old.handle.value }
+    ensures stays { result ≢ 0 → told.new ≡ told.old }
+{
+    let Some(quotient) = opened.take(alloc) else {
+        return NOT_OPEN;
+    };
+    let made = answers_in(alloc, quotient.shown(), heaps, ends, told.len());
+    opened.put(alloc, quotient);
+    match made {
+        Ok(made) => {
+            told.copy_from_slice(&made);
+            DONE
+        }
+        Err(status) => status,
+    }
+}
