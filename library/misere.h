@@ -9,7 +9,7 @@
  * are written where `told` points. A call that does not answer MISERE_YES writes nothing there, but
  * for those that say otherwise.
  * Threads. There is no state: any number of calls may run at once, in any threads, if no two of them
- * are given the same misere_opened. Not from a signal handler, nor in a child forked off a process
+ * are given the same misere_opened or misere_infinite. Not from a signal handler, nor in a child forked off a process
  * with threads.
  * Pointers. They are not null, also if the length is 0, and what is written overlaps nothing that is
  * given. Nothing checks that a length is that of the memory. */
@@ -49,7 +49,12 @@ enum {
     MISERE_NOT_IN_RANGE = 15, /* a bound of the search, or a choice, is out of its range */
     MISERE_NOT_DESCRIBED = 16, /* the quotient is not described within the bounds */
     MISERE_NOT_OPEN = 17,     /* nothing is opened there */
-    MISERE_BEYOND = 23        /* the certificate is partial, and does not speak of all the heaps */
+    MISERE_BEYOND = 23,       /* the certificate does not speak of all the heaps */
+    /* refusals of infinite quotients, beside 1, 2, 4, 7, 8 and 9 */
+    MISERE_LEAVES = 31,       /* an option of a heap has a heap of which the certificate does not speak */
+    MISERE_IDLE = 32,         /* an element is P at a place that no position has with it */
+    MISERE_UNDECIDED = 33,    /* the rule was not seen to hold, and no position was found at which it fails */
+    MISERE_RAY = 34           /* the claim is right, but its positions do not show an infinite quotient */
 };
 
 enum { MISERE_P = 0, MISERE_N = 1 };
@@ -198,6 +203,43 @@ uint32_t misere_opened_answers(misere_opened *opened, const uint64_t *heaps, siz
 /* As misere_describe of the bytes that were opened. */
 uint32_t misere_opened_describe(misere_opened *opened, uint32_t output, uint32_t form, uint8_t *told,
                                 size_t room, uint64_t *count);
+
+/* Whether the bytes are an accepted certificate of an infinite quotient: it tells who wins each position
+ * of its heaps, and their misere quotient is infinite. MISERE_LIMIT is the limit here too. */
+uint32_t misere_check_infinite(const uint8_t *bytes, size_t length, uint32_t limit);
+
+/* Checks the bytes as misere_check_infinite does. With MISERE_OUTCOME it writes to *count how many heaps
+ * the position has at which the rule fails, and, if there is room for them, to told which. */
+uint32_t misere_infinite_failure(const uint8_t *bytes, size_t length, uint32_t limit,
+                                 uint64_t *told, size_t room, uint64_t *count);
+
+/* One owner of an opened infinite quotient. What is said of misere_opened holds of it, with its own
+ * calls. */
+typedef struct {
+    uint64_t full; /* 0 where nothing is opened */
+    void *kept;
+} misere_infinite;
+
+#define MISERE_INFINITE_CLOSED { 0, 0 }
+
+/* As misere_open, misere_share and misere_close. */
+uint32_t misere_infinite_open(const uint8_t *bytes, size_t length, uint32_t limit,
+                              misere_infinite *told);
+uint32_t misere_infinite_share(misere_infinite *opened, misere_infinite *told);
+uint32_t misere_infinite_close(misere_infinite *opened);
+
+/* As misere_opened_outcome and misere_opened_answer. MISERE_BEYOND is answered for a heap above the last
+ * one, and for one that the certificate leaves out. */
+uint32_t misere_infinite_outcome(misere_infinite *opened, const uint64_t *heaps, size_t count,
+                                 uint32_t *told);
+uint32_t misere_infinite_answer(misere_infinite *opened, uint64_t *heaps, size_t count,
+                                misere_move *told);
+
+/* As misere_opened_outcomes and misere_opened_answers. */
+uint32_t misere_infinite_outcomes(misere_infinite *opened, const uint64_t *heaps, size_t count,
+                                  const uint64_t *ends, size_t positions, uint32_t *told, size_t room);
+uint32_t misere_infinite_answers(misere_infinite *opened, const uint64_t *heaps, size_t count,
+                                 const uint64_t *ends, size_t positions, misere_move *told, size_t room);
 
 #ifdef __cplusplus
 }

@@ -18,7 +18,7 @@ from dataclasses import asdict, dataclass, field
 from script import root
 
 PARTS = ("src", "specs", "proofs")
-STATIC = ("misere_library", "solve_library")
+STATIC = ("misere_library", "solve_library", "infinite_library")
 PROGRAMS = ("misere", "misere_check", *STATIC)
 
 
