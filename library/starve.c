@@ -35,8 +35,10 @@ static struct {
     uint8_t text[1 << 16];
 } told, untold;
 
-/* That of the certificate, if it is accepted. Else every call on it answers MISERE_NOT_OPEN. */
+/* That of the certificate, if it is accepted, of a finite quotient or of an infinite one. Else every call on it answers
+ * MISERE_NOT_OPEN. */
 static misere_opened opened = MISERE_CLOSED;
+static misere_infinite infinite = MISERE_INFINITE_CLOSED;
 
 static const uint64_t heaps[12] = {2, 3, 1, 4, 2, 3, 1, 4, 2, 3, 1, 2}, ends[2] = {2, 12};
 
@@ -102,6 +104,39 @@ static uint32_t opened_describe(void) {
     return misere_opened_describe(&opened, MISERE_LATEX, MISERE_SHORT, told.text, sizeof told.text, &told.count);
 }
 
+static uint32_t check_infinite(void) { return misere_check_infinite(bytes, length, MISERE_LIMIT); }
+static uint32_t infinite_failure(void) {
+    return misere_infinite_failure(bytes, length, MISERE_LIMIT, told.heaps, 8, &told.count);
+}
+static uint32_t infinite_open(void) {
+    misere_infinite one = MISERE_INFINITE_CLOSED;
+    uint32_t status = misere_infinite_open(bytes, length, MISERE_LIMIT, &one);
+    stop_unless(misere_infinite_close(&one) == (status ? MISERE_NOT_OPEN : MISERE_YES), "an owner isn't as its status says");
+    return status;
+}
+static uint32_t infinite_share(void) {
+    misere_infinite one = MISERE_INFINITE_CLOSED;
+    uint32_t status = misere_infinite_share(&infinite, &one);
+    stop_unless(misere_infinite_close(&one) == (status ? MISERE_NOT_OPEN : MISERE_YES), "an owner isn't as its status says");
+    return status;
+}
+static uint32_t infinite_open_over(void) {
+    misere_infinite one = MISERE_INFINITE_CLOSED;
+    uint32_t number, status = misere_infinite_share(&infinite, &one);
+    if (status) return status;
+    status = misere_infinite_open(bytes, length, MISERE_LIMIT, &one);
+    stop_unless(!misere_infinite_outcome(&one, heaps, 12, &number) && !misere_infinite_close(&one), "what stays open isn't told");
+    return status;
+}
+static uint32_t infinite_outcome(void) { return misere_infinite_outcome(&infinite, heaps, 12, told.numbers); }
+static uint32_t infinite_answer(void) {
+    uint64_t mine[12];
+    memcpy(mine, heaps, sizeof mine);
+    return misere_infinite_answer(&infinite, mine, 12, told.moves);
+}
+static uint32_t infinite_outcomes(void) { return misere_infinite_outcomes(&infinite, heaps, 12, ends, 2, told.numbers, 2); }
+static uint32_t infinite_answers(void) { return misere_infinite_answers(&infinite, heaps, 12, ends, 2, told.moves, 2); }
+
 static const struct {
     const char *name;
     uint32_t (*ask)(void);
@@ -128,6 +163,15 @@ static const struct {
     {"opened_values", opened_values, 0},
     {"opened_answers", opened_answers, 1},
     {"opened_describe", opened_describe, 1},
+    {"check_infinite", check_infinite, 1},
+    {"infinite_failure", infinite_failure, 1},
+    {"infinite_open", infinite_open, 1},
+    {"infinite_share", infinite_share, 1},
+    {"infinite_open over another", infinite_open_over, 1},
+    {"infinite_outcome", infinite_outcome, 0},
+    {"infinite_answer", infinite_answer, 0},
+    {"infinite_outcomes", infinite_outcomes, 0},
+    {"infinite_answers", infinite_answers, 1},
 };
 #define CALLS (sizeof calls_of / sizeof *calls_of)
 
@@ -158,10 +202,13 @@ int main(int argc, char **argv) {
     memset(&untold, 77, sizeof untold);
     long before = held;
     uint32_t status = misere_open(bytes, length, MISERE_LIMIT, &opened);
+    uint32_t infinite_status = misere_infinite_open(bytes, length, MISERE_LIMIT, &infinite);
     for (size_t call = 0; call < CALLS; call++)
         if (!starve(call)) return 1;
     stop_unless(misere_close(&opened) == (status ? MISERE_NOT_OPEN : MISERE_YES), "it isn't closed");
     stop_unless(misere_close(&opened) == MISERE_NOT_OPEN, "it is closed twice");
+    stop_unless(misere_infinite_close(&infinite) == (infinite_status ? MISERE_NOT_OPEN : MISERE_YES), "it isn't closed");
+    stop_unless(misere_infinite_close(&infinite) == MISERE_NOT_OPEN, "it is closed twice");
     stop_unless(held == before, "what is closed is kept");
     return 0;
 }
