@@ -152,7 +152,8 @@ enum {
 enum { MISERE_SHORT = 0, MISERE_BASIS = 1 };
 
 /* Writes the description of the quotient that the bytes certify, plain, for LaTeX or in JSON, or its
- * relations as one word, or their ideal for Singular or GAP, and to *count how many bytes it has; with MISERE_NO_ROOM *count alone. */
+ * relations as one word, or their ideal for Singular or GAP, and to *count how many bytes it has; with
+ * MISERE_NO_ROOM *count alone. */
 uint32_t misere_describe(const uint8_t *bytes, size_t length, uint32_t limit, uint32_t output,
                          uint32_t form, uint8_t *told, size_t room, uint64_t *count);
 
