@@ -51,6 +51,10 @@ export const STATUSES = {
   16: "NotDescribed",
   17: "NotOpen",
   23: "Beyond",
+  31: "Part",
+  32: "Idle",
+  33: "Undecided",
+  34: "Ray",
 };
 const [OUTCOME, MEMORY, NOT_A_HEAP, GAVE_UP, NO_ROOM, NOT_IN_RANGE] = [7, 9, 10, 13, 14, 15];
 
