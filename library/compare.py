@@ -28,6 +28,8 @@ SIX = ("0.3", "0.33", "0.75", "0.b", "0.75_heaps_8", "0.8_heaps_4")
 # Of each quotient: all positions, those that the program is asked, those that a search settles, those of each thread
 POSITIONS, PLAYED, SMALL, ASKED, THREADS = 16_700, 170, 50, 500, 8
 FOUND = ("0.3", "0.33", "0.75")
+# What the program prints of each quotient that is described. (--relations is compared by itself.)
+PRINTED: tuple[misere.Output, ...] = ("latex", "json", "singular", "gap")
 
 Heaps = Sequence[int]
 
@@ -170,7 +172,8 @@ def compare_finder(program: str) -> None:
         for basis in ((), ("--basis",)):
             words: tuple[str | os.PathLike[str], ...] = (program, "describe", file, *basis)
             assert quotient.describe(basis=bool(basis)) == printed(*words), words
-            assert quotient.describe("latex", bool(basis)) == printed(*words, "--latex"), words
+            for output in PRINTED:
+                assert quotient.describe(output, bool(basis)) == printed(*words, f"--{output}"), (words, output)
             compare_relations(quotient, bool(basis), *words)
 
 

@@ -44,7 +44,7 @@ from ._faults import (
 )
 from ._finder import check, solve, solve_furthest, solve_part
 from ._library import version
-from ._quotient import Given, Quotient
+from ._quotient import Given, Output, Quotient
 from ._version import VERSION as __version__
 
 __all__ = [
@@ -65,6 +65,7 @@ __all__ = [
     "NotInRange",
     "NotOpen",
     "Outcome",
+    "Output",
     "Quotient",
     "Refused",
     "WrongType",

@@ -3,12 +3,13 @@
 from __future__ import annotations
 
 import ctypes
+import json
 import operator
 import os
 from collections.abc import Callable, Iterable, Sequence
-from typing import Any, Final, Literal, Union, overload
+from typing import Any, Literal, Union, get_args, overload
 
-from . import _certificate, _description, _shown, _systems
+from . import _certificate, _shown
 from ._answers import OUTCOMES, Answer, Move, Outcome, answer_of, array_of, letters_of
 from ._bounds import LARGEST_HEAP, LIMIT, MOST_BYTES
 from ._certified import Certified
@@ -18,7 +19,9 @@ from ._library import Call, Told, text_by
 
 #: A certificate: its bytes, their text, or the path of its file.
 Given = Union[bytes, str, "os.PathLike[str]"]
-OUTPUTS: Final = ("description", "latex", "relations")
+#: What is told of a quotient. The library numbers them in this order.
+Output = Literal["description", "latex", "relations", "json", "singular", "gap"]
+OUTPUTS: tuple[Output, ...] = get_args(Output)
 # As many bytes are room for most descriptions
 USUAL_TEXT = 1 << 16
 
@@ -167,13 +170,11 @@ class Quotient:
         """The answer in each position."""
         return [answer_of(it) for it in self._asked_of_all(self._certified.answers, rows_of(positions), Told)]
 
-    def describe(
-        self, output: Literal["description", "latex", "relations"] = "description", basis: bool = False
-    ) -> str:
+    def describe(self, output: Output = "description", basis: bool = False) -> str:
         """The quotient by generators and relations, with its portion, invariants and heaps; or it raises NotDescribed.
 
-        `output` is "description", "latex" or "relations" (one word). With `basis` the relations are the reduced
-        Gröbner basis.
+        `output` is "description", "latex", "relations" (one word), "json", "singular" or "gap": what `misere describe`
+        prints, without and with one of these words. With `basis` the relations are the reduced Gröbner basis.
         """
         if output not in OUTPUTS:
             raise fault(NOT_IN_RANGE, f"an output is one of {', '.join(OUTPUTS)}, and {output!r} is none")
@@ -182,28 +183,21 @@ class Quotient:
             return text_by(USUAL_TEXT, self._certified.describe, *owner.words, *words).decode("utf-8")
 
     def to_dict(self, basis: bool = False) -> dict[str, Any]:
-        """The description in values that JSON has: numbers, words such as "ab^2", lists of them, and None as the n of a
-        wild quotient; or it raises NotDescribed. "heaps" has the words of the heaps 1, 2, .. to the end of the first
-        period, "period" is 0 of a partial quotient."""
-        return _systems.dict_of(self._certificate, self._described(basis))
+        """The description that `misere describe --json` prints, as a dict: numbers, words such as "ab^2", lists of them,
+        and None as the n of a wild quotient; or it raises NotDescribed. "heaps" has the words of the heaps 1, 2, .. to the
+        end of the first period, "period" is 0 of a partial quotient."""
+        told: dict[str, Any] = json.loads(self.describe("json", basis))
+        return told
 
     def singular(self, basis: bool = False) -> str:
-        """Commands of Singular that make the ideal of the relations, or it raises NotDescribed. Its monomials are ordered
-        as those of `basis` are, so that this is the reduced Gröbner basis there too. (`misere describe --singular`
-        prints the same ideal, in other words.)"""
-        return _systems.singular_of(self._title, self._described(basis))
+        """Commands of Singular that make the ideal of the relations, as `misere describe --singular` prints them; or it
+        raises NotDescribed. Its monomials are ordered as those of `basis` are, so that this is the reduced Gröbner basis
+        there too."""
+        return self.describe("singular", basis)
 
     def gap(self, basis: bool = False) -> str:
-        """Commands of GAP that make the monoid of the relations; or it raises NotDescribed. (`misere describe --gap`
-        prints the ideal of the relations.)"""
-        return _systems.gap_of(self._title, self._described(basis))
-
-    def _described(self, basis: bool = False) -> _description.Description:
-        return _description.read(self.describe(basis=basis))
-
-    @property
-    def _title(self) -> str:
-        return f"Q({self.code})" if self.period else f"Q_{self.last_heap}({self.code})"
+        """The same for GAP, as `misere describe --gap` prints it."""
+        return self.describe("gap", basis)
 
     def _number(self, call: Call, heaps: Iterable[int]) -> int:
         """What a call tells of a position in a number."""
@@ -267,11 +261,9 @@ class Quotient:
     def _repr_html_(self) -> str | None:
         """What a notebook shows."""
         try:
-            description = self._described()
+            return _shown.html_of(self.to_dict())
         except (NotDescribed, NotOpen):
             return None
-        title = "<i>Q</i>" if self.period else f"<i>Q</i><sub>{self.last_heap}</sub>"
-        return _shown.html_of(title, self.code, description, self.start, self.period)
 
 
 def _bytes_of(certificate: Given) -> bytes:

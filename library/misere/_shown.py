@@ -5,13 +5,13 @@ from __future__ import annotations
 import html
 import re
 from collections.abc import Iterable, Sequence
-
-from ._description import Description, powers_of
+from typing import Any
 
 # How many heaps stand in a row, if a period doesn't say so
 COLUMNS, MOST_COLUMNS = 12, 16
 _LISTS = re.compile(r"\\begin\{flushleft\}\n(.*?)\n\\end\{flushleft\}", re.S)
 _ARRAYS = re.compile(r"\\begin\{array\}.*?\\end\{array\}", re.S)
+_POWER = re.compile(r"([a-z])(?:\^(\d+))?")
 
 
 def latex_of(description: str) -> str:
@@ -28,19 +28,27 @@ def _formula(line: str) -> str:
     return "".join(piece if at % 2 else f"\\text{{{piece}}}" for at, piece in enumerate(pieces) if piece)
 
 
-def html_of(title: str, code: str, description: Description, start: int, period: int) -> str:
-    """The description in lines, with the heaps in a table."""
-    relations = (f"{_word(left)} = {_word(right)}" for left, right in description.relations)
-    tame = "wild" if description.tame is None else f"tame {description.tame}"
+def html_of(told: dict[str, Any]) -> str:
+    """The description in lines, with the heaps in a table, of its values in JSON."""
+    start, period = told["start"], told["period"]
+    index = "" if period else f"<sub>{start - 1}</sub>"
+    relations = ", ".join(f"{_word(left)} = {_word(right)}" for left, right in told["relations"])
+    tame = "wild" if told["tame"] is None else f"tame {told['tame']}"
+    quotient = f"<i>Q</i>{index}(<b>{html.escape(told['code'])}</b>)"
     lines = [
-        f"{title}(<b>{html.escape(code)}</b>) = ⟨ {_row(description.generators)} | {', '.join(relations)} ⟩",
-        f"{title.replace('Q', 'P')} = {{ {_row(description.portion)} }}",
-        f"order {description.order}, portion {len(description.portion)}, {tame}",
-        f"units {_row(description.units)}; idempotents {_row(description.idempotents)}",
-        f"kernel {_row(description.kernel)}",
+        f"{quotient} = ⟨ {_row(told['generators'])} | {relations} ⟩",
+        f"<i>P</i>{index} = {{ {_row(told['portion'])} }}",
+        f"order {told['order']}, portion {len(told['portion'])}, {tame}",
+        f"units {_row(told['units'])}; idempotents {_row(told['idempotents'])}",
+        f"kernel {_row(told['kernel'])}",
     ]
     ending = f"and so on from heap {start}, with period {period}" if period else f"heaps to {start - 1}"
-    return "<div>" + "<br>".join(lines) + _table(description.heaps, _columns(period)) + ending + "</div>"
+    return "<div>" + "<br>".join(lines) + _table(told["heaps"], _columns(period)) + ending + "</div>"
+
+
+def powers_of(word: str) -> list[tuple[str, int]]:
+    """The letters of a word with their exponents; none of the word 1."""
+    return [(letter, int(exponent or 1)) for letter, exponent in _POWER.findall(word)]
 
 
 def _word(word: str) -> str:

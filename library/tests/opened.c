@@ -103,12 +103,17 @@ static void many(misere_opened *opened, size_t count) {
     stop_unless(!memcmp(moves, answers, sizeof answers), "other answers");
 }
 
+/* (MISERE_GAP is the last output, and MISERE_BASIS the last form.) */
 static void describe(misere_opened *opened) {
     static uint8_t text[1 << 16], other[1 << 16];
-    uint64_t count, others;
-    stop_unless(misere_describe(bytes, length, MISERE_LIMIT, MISERE_DESCRIPTION, MISERE_SHORT, text, sizeof text, &count)
-                    == misere_opened_describe(opened, MISERE_DESCRIPTION, MISERE_SHORT, other, sizeof other, &others)
-                    && count == others && !memcmp(text, other, count), "another description");
+    for (uint32_t output = 0; output <= MISERE_GAP + 1; output++)
+        for (uint32_t form = 0; form <= MISERE_BASIS + 1; form++) {
+            uint64_t count = 0, others = 0;
+            uint32_t status = misere_describe(bytes, length, MISERE_LIMIT, output, form, text, sizeof text, &count);
+            stop_unless(status == misere_opened_describe(opened, output, form, other, sizeof other, &others)
+                            && count == others && !memcmp(text, other, count), "another description");
+            stop_unless((status == MISERE_NOT_IN_RANGE) == (output > MISERE_GAP || form > MISERE_BASIS), "no such output");
+        }
 }
 
 /* The last heap of which a certificate speaks stands in its file's name, as 0.75_heaps_8. */

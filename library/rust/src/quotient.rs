@@ -13,7 +13,8 @@ use std::sync::Arc;
 /// As many bytes are room for most descriptions.
 const USUAL: usize = 1 << 16;
 
-/// What is told of a quotient.
+/// What is told of a quotient: what `misere describe` prints, without and with the word of this name. The library numbers them in this
+/// order.
 #[derive(Clone, Copy, Debug, PartialEq, Eq)]
 pub enum Output {
     /// Generators and relations, portion, invariants and heaps, in lines.
@@ -22,6 +23,12 @@ pub enum Output {
     Latex,
     /// The relations as one word.
     Relations,
+    /// All of the description as one object of JSON, in one line.
+    Json,
+    /// Commands of Singular that make the ideal of the relations.
+    Singular,
+    /// The same for GAP.
+    Gap,
 }
 
 /// A certified misère quotient. It is made by a check alone, and doesn't change.

@@ -89,6 +89,26 @@ fn what_is_found_is_checked() {
 }
 
 #[test]
+fn each_output_is_a_text_of_its_own() {
+    // the texts of docs/DESCRIBE.md
+    let rows = [
+        (Output::Description, "Q(0.75) = < a,b,c | a^2=1, bc=ab, c^2=b^2 >\nP = { a, b^2 }\norder 8 portion 2 wild\n"),
+        (Output::Latex, "\\begin{flushleft}\n$\\mathcal{Q}(\\mathbf{0.75})="),
+        (Output::Relations, "a^2=1 "),
+        (Output::Json, "{\"code\":\"0.75\",\"kind\":\"full\",\"relations\":[[\"a^2\",\"1\"],[\"bc\",\"ab\"],[\"c^2\",\"b^2\"]],"),
+        (Output::Singular, "// Q(0.75), of order 8: vdim(std(I))\nring R = 0,(c,b,a),dp;\nideal I =\n  a^2-1,\n  b*c-a*b,\n  c^2-b^2;\n"),
+        (Output::Gap, "# Q(0.75), of order 8: ReducedGroebnerBasis(I, O)\nc := Indeterminate(Rationals, \"c\" : new);;\n"),
+    ];
+    let quotient = quotient("0.75");
+    for (output, begin) in rows {
+        let (short, basis) = (quotient.describe(output, false).unwrap(), quotient.describe(output, true).unwrap());
+        assert!(short.starts_with(begin), "{output:?}: {short}");
+        // (the short list as one word has b^3=b too, since no other relation is one between powers of b)
+        assert!(short != basis || output == Output::Relations, "{output:?}");
+    }
+}
+
+#[test]
 fn a_deep_search_finds_what_the_program_finds() {
     let found = Quotient::solve("0.677", Bounds::DEEP).unwrap();
     assert_eq!((found.order(), found.last_heap()), (172, None));
