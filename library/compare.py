@@ -3,8 +3,8 @@ search of all plays. (tests/opened.c compares them with what the calls by bytes 
 
     python3 compare.py [PROGRAM]
 
-Over 100,000 positions of six quotients, of which the program is asked 1,000. The refused samples get the program's
-numbers and positions, and eight threads over each quotient agree.
+Over 100,000 positions of six quotients, of which the program is asked 1,000, and positions of infinite ones. The
+refused samples get the program's numbers and positions, and eight threads over each quotient agree.
 """
 
 from __future__ import annotations
@@ -27,6 +27,8 @@ rust = "rust/target/release/misere_positions"
 SIX = ("0.3", "0.33", "0.75", "0.b", "0.75_heaps_8", "0.8_heaps_4")
 # Of each quotient: all positions, those that the program is asked, those that a search settles, those of each thread
 POSITIONS, PLAYED, SMALL, ASKED, THREADS = 16_700, 170, 50, 500, 8
+# Of each infinite quotient
+INFINITE = 2000
 FOUND = ("0.3", "0.33", "0.75")
 # What the program prints of each quotient that is described. (--relations is compared by itself.)
 PRINTED: tuple[misere.Output, ...] = ("latex", "json", "singular", "gap")
@@ -88,10 +90,13 @@ def positions_of(quotient: misere.Quotient) -> Iterator[list[int]]:
         yield [random.randint(1, most) for most in mosts]
 
 
+def answer_of(answer: misere.Answer) -> str:
+    """The line of the program."""
+    return answer if isinstance(answer, str) else f"wins {answer.heap} -> {' '.join(map(str, answer.left)) or 0}"
+
+
 def line_of(value: int, outcome: str, answer: misere.Answer) -> str:
-    if isinstance(answer, str):
-        return f"{value} {outcome} {answer}"
-    return f"{value} {outcome} wins {answer.heap} -> {' '.join(map(str, answer.left)) or 0}"
+    return f"{value} {outcome} {answer_of(answer)}"
 
 
 def lines_of(quotient: misere.Quotient, positions: Sequence[Heaps]) -> list[str]:
@@ -137,11 +142,25 @@ def compare_quotient(program: str, name: str) -> Compared:
     return Compared(quotient, positions, lines)
 
 
+def compare_infinite(program: str, file: pathlib.Path) -> None:
+    """The first winning moves by an infinite quotient, and what the program prints."""
+    quotient = misere.check_infinite(file)
+    heaps = [it for it in range(1, quotient.last_heap + 1) if it not in quotient.without]
+    positions = [[random.choice(heaps) for _ in range(random.randint(1, 12))] for _ in range(INFINITE)]
+    answers = quotient.answers(positions)
+    assert answers == [quotient.answer(it) for it in positions], file
+    assert quotient.outcomes(positions) == [quotient.outcome(it) for it in positions], file
+    text = "".join(" ".join(map(str, it)) + "\n" for it in positions)
+    run = subprocess.run((program, "infinite", file, "-"), input=text, capture_output=True, text=True, check=True)
+    assert run.stdout.splitlines() == [answer_of(it) for it in answers], file
+
+
 def compare_refused(program: str, file: pathlib.Path) -> None:
     """What is told of a refused sample."""
-    text = printed(program, "check", file)
+    is_infinite = file.suffix == ".mqi"
+    text = printed(program, "infinite" if is_infinite else "check", file)
     try:
-        misere.check(file.read_bytes())
+        (misere.check_infinite if is_infinite else misere.check)(file.read_bytes())
     except misere.Refused as refused:
         assert text.startswith(f"no {refused.number} {refused.name}\n"), (file, text)
         if refused.position is not None:
@@ -199,13 +218,17 @@ def main() -> None:
     random.seed(49)
     program = sys.argv[1] if len(sys.argv) > 1 else str(here.parent / "crates/misere/out/misere")
     compared = [compare_quotient(program, name) for name in SIX]
-    refused = sorted((samples / "refused").glob("*.mqc"))
+    infinite = sorted(samples.glob("*.mqi"))
+    for file in infinite:
+        compare_infinite(program, file)
+    refused = sorted((samples / "refused").glob("*.mq[ci]"))
     for file in refused:
         compare_refused(program, file)
     compare_finder(program)
     compare_threads(compared)
     asked = f"{POSITIONS * len(SIX)} positions of {len(SIX)} quotients by C, Python and Rust, {PLAYED * len(SIX)} by the program"
-    print(f"{asked}, {len(refused)} refused samples, {THREADS} threads over each quotient: all agree")
+    more = f"{INFINITE} of each of {len(infinite)} infinite ones"
+    print(f"{asked}, {more}, {len(refused)} refused samples, {THREADS} threads over each quotient: all agree")
 
 
 if __name__ == "__main__":

@@ -9,6 +9,7 @@
     q.table[2][3], q.phi(10**18), q.portion
     print(q.describe())                    # generators and relations, as the literature prints them
     misere.Catalogue()["Kayles"]           # that of the atlas, by its code or its name
+    misere.check_infinite(pathlib.Path("0.354_heaps_5.mqi")).outcome([2, 4] + 7 * [5])  # 'P': no finite one says so
 
 What outcome, value, answer and winning_move give is proved of every position, of any number of heaps of 1 to 10^18 (of
 a partial certificate: of its heaps), and so is what outcomes, values and answers give of many. describe's text is
@@ -26,8 +27,9 @@ child of a fork may go on asking, if the process had one thread alone.
 """
 
 from ._answers import Answer, Move, Outcome
+from ._asked import Given
 from ._bounds import LIMIT
-from ._catalogue import NAMES, Catalogue
+from ._catalogue import NAMES, Catalogue, InfiniteCatalogue
 from ._faults import (
     Absent,
     Beyond,
@@ -42,9 +44,10 @@ from ._faults import (
     Refused,
     WrongType,
 )
-from ._finder import check, solve, solve_furthest, solve_part
+from ._finder import check, check_infinite, solve, solve_furthest, solve_part
+from ._infinite import InfiniteQuotient
 from ._library import version
-from ._quotient import Given, Output, Quotient
+from ._quotient import Output, Quotient
 from ._version import VERSION as __version__
 
 __all__ = [
@@ -55,6 +58,8 @@ __all__ = [
     "Beyond",
     "Catalogue",
     "Given",
+    "InfiniteCatalogue",
+    "InfiniteQuotient",
     "MisereError",
     "Move",
     "NoMemory",
@@ -71,6 +76,7 @@ __all__ = [
     "WrongType",
     "__version__",
     "check",
+    "check_infinite",
     "solve",
     "solve_furthest",
     "solve_part",

@@ -1,15 +1,18 @@
-"""Catalogues of certificates, such as those of the atlas."""
+"""Catalogues of certificates, such as those of the atlas, of finite quotients and of infinite ones."""
 
 from __future__ import annotations
 
 import json
 import os
 import pathlib
-from collections.abc import Iterator, Mapping
-from typing import Any, Final, Union
+from collections.abc import Iterable, Iterator, Mapping
+from typing import Any, Final, TypeVar, Union
 
+from . import _certificate
+from ._asked import Asked
 from ._bounds import LIMIT
 from ._faults import TEXT, Absent, Refused
+from ._infinite import InfiniteQuotient
 from ._quotient import Quotient
 
 #: The codes of games by their names in Winning Ways.
@@ -21,30 +24,21 @@ NAMES: Final = {
     "Officers": "0.6",
 }
 ATLAS = ("octal.json", "hexadecimal.json")
+INFINITE = "infinite"
 # A code or a name; or a code with the last heap of a partial certificate, which is 0 of a full one
 Key = Union[str, "tuple[str, int]"]
+Texts = dict["tuple[str, int]", str]
+Kept = TypeVar("Kept", bound=Asked)
 
 
-class Catalogue(Mapping[Key, Quotient]):
-    """The quotients of a catalogue file, such as `misere catalogue FILE --add` writes, or without a path those of the
-    atlas. A certificate is checked when its quotient is asked for, and nothing is believed of the file.
+class _Kept(Mapping[Key, Kept]):
+    """Certificates by their codes and last heaps, each of which is checked when it is asked for."""
 
-    catalogue["0.77"] is the quotient of a code, the full one where there is one, else the partial one of the most
-    heaps; catalogue["Kayles"] that of a name; catalogue["0.07", 24] that of the heaps to 24. What isn't there raises
-    Absent, a KeyError."""
-
-    def __init__(self, path: str | os.PathLike[str] | None = None, limit: int = LIMIT) -> None:
-        self._limit = limit
-        files = [pathlib.Path(path)] if path is not None else [_atlas() / name for name in ATLAS]
-        self._texts: dict[tuple[str, int], str] = {}
-        for file in files:
-            self._texts.update(_entries_of(file))
+    def __init__(self, texts: Texts, limit: int) -> None:
+        self._texts, self._limit = texts, limit
         self._kinds: dict[str, int] = {}
-        for code, heaps in self._texts:
+        for code, heaps in texts:
             self._kinds[code] = _further(heaps, self._kinds.get(code))
-
-    def __getitem__(self, key: Key) -> Quotient:
-        return Quotient(self.certificate(key), self._limit)
 
     def certificate(self, key: Key) -> str:
         """The text of a certificate, which nobody has checked yet."""
@@ -72,6 +66,53 @@ class Catalogue(Mapping[Key, Quotient]):
 
     def __repr__(self) -> str:
         return f"<catalogue of {len(self)} codes>"
+
+
+class Catalogue(_Kept[Quotient]):
+    """The quotients of a catalogue file, such as `misere catalogue FILE --add` writes, or without a path those of the
+    atlas. A certificate is checked when its quotient is asked for, and nothing is believed of the file.
+
+    catalogue["0.77"] is the quotient of a code, the full one where there is one, else the partial one of the most
+    heaps; catalogue["Kayles"] that of a name; catalogue["0.07", 24] that of the heaps to 24. What isn't there raises
+    Absent, a KeyError."""
+
+    def __init__(self, path: str | os.PathLike[str] | None = None, limit: int = LIMIT) -> None:
+        texts: Texts = {}
+        for file in [pathlib.Path(path)] if path is not None else [_atlas() / name for name in ATLAS]:
+            texts.update(_entries_of(file))
+        super().__init__(texts, limit)
+
+    def __getitem__(self, key: Key) -> Quotient:
+        return Quotient(self.certificate(key), self._limit)
+
+
+class InfiniteCatalogue(_Kept[InfiniteQuotient]):
+    """The infinite quotients of a folder of certificates, NAME.mqi each, or without a path those of the atlas.
+
+    catalogue["0.07"] or catalogue["Dawson's Kayles"] is that of the most heaps, and catalogue["0.07", 34] that of the
+    heaps to 34: of several the one that leaves out the fewest. Each is checked when it is asked for."""
+
+    def __init__(self, path: str | os.PathLike[str] | None = None, limit: int = LIMIT) -> None:
+        folder = pathlib.Path(path) if path is not None else _atlas() / INFINITE
+        super().__init__(_infinite_of(sorted(folder.glob("*.mqi"))), limit)
+
+    def __getitem__(self, key: Key) -> InfiniteQuotient:
+        return InfiniteQuotient(self.certificate(key), self._limit)
+
+
+def _infinite_of(files: Iterable[pathlib.Path]) -> Texts:
+    """The certificates of files, by what their texts say."""
+    texts: dict[tuple[str, int], tuple[int, str]] = {}
+    for file in files:
+        try:
+            text = file.read_text("ascii")
+            part = _certificate.read_part(text)
+        except (ValueError, KeyError, IndexError):
+            raise Refused(TEXT, f"{file} is no certificate") from None
+        entry, left_out = (part.code, part.last_heap), len(part.without)
+        if entry not in texts or left_out < texts[entry][0]:
+            texts[entry] = (left_out, text)
+    return {entry: text for entry, (_, text) in texts.items()}
 
 
 def _further(heaps: int, known: int | None) -> int:

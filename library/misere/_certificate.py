@@ -3,6 +3,7 @@
 from __future__ import annotations
 
 from collections.abc import Iterable, Sequence
+from typing import NamedTuple
 
 Rows = tuple[tuple[int, ...], ...]
 
@@ -34,6 +35,22 @@ class Certificate:
             row = rows[element]
             rows.append(tuple([row[x] for x in rows[self.phi[heap - 1]]]))
         return tuple(rows)
+
+
+class Part(NamedTuple):
+    """Which heaps a certificate of an infinite quotient speaks of: those up to the last one, but for some."""
+
+    code: str
+    last_heap: int
+    without: tuple[int, ...]
+
+
+def read_part(text: str) -> Part:
+    """What an accepted text of an infinite quotient says of its heaps. A heap that is left out is a minus in the line of
+    their elements."""
+    words = {name: words for name, *words in (line.split(" ") for line in text.splitlines()[:5])}
+    without = tuple(heap for heap, element in enumerate(words["phi"], 1) if element == "-")
+    return Part(words["code"][0], int(words["heaps"][0]), without)
 
 
 def read(text: str) -> Certificate:

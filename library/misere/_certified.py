@@ -9,7 +9,7 @@ import threading
 from collections.abc import Iterator
 from contextlib import contextmanager
 
-from ._faults import OUTCOME, MisereError, fault
+from ._faults import LIMIT_MET, OUTCOME, MisereError, fault
 from ._given import words_of
 from ._library import Call, Opened, Told, library
 
@@ -35,6 +35,17 @@ class Owner:
     __del__ = close
 
 
+class InfiniteOwner(Owner):
+    """The same of an opened infinite quotient."""
+
+    __slots__ = ()
+
+    def close(self, close: Call = library.misere_infinite_close) -> None:
+        close(*self.words)
+
+    __del__ = close
+
+
 class Certified:
     """A certificate that was accepted: it is checked once, and the library keeps its quotient. It has as many owners as
     there are calls at once, each of which is lent to one call. (To take one off a list or put one there is a step of the
@@ -42,27 +53,30 @@ class Certified:
 
     __slots__ = ("_closed", "_first", "_idle")
 
-    outcome = library.misere_opened_outcome
-    value = library.misere_opened_value
-    answer = library.misere_opened_answer
-    outcomes = library.misere_opened_outcomes
-    values = library.misere_opened_values
-    answers = library.misere_opened_answers
-    describe = library.misere_opened_describe
+    # Its owners, its calls, and what a number says where it says something else than usual
+    owner: type[Owner]
+    open: Call
+    share: Call
+    failure: Call
+    outcome: Call
+    outcomes: Call
+    answer: Call
+    answers: Call
+    meanings: dict[int, str] = {}
 
     def __init__(self, first: Owner) -> None:
         """Of an owner, of which the others are made. No call has it but for that."""
         self._first, self._closed = first, False
         self._idle: list[Owner] = []
 
-    @staticmethod
-    def of(certificate: bytes, limit: int) -> Certified:
+    @classmethod
+    def of(cls, certificate: bytes, limit: int) -> Certified:
         """That of an accepted certificate."""
-        first = Owner()
-        status = library.misere_open(certificate, len(certificate), limit, *first.words)
+        first = cls.owner()
+        status = cls.open(certificate, len(certificate), limit, *first.words)
         if status:
-            raise refusal(status, certificate, limit)
-        return Certified(first)
+            raise cls._refusal(status, certificate, limit, USUAL_HEAPS)
+        return cls(first)
 
     def lend(self) -> Owner:
         """An owner that no other call has."""
@@ -99,12 +113,12 @@ class Certified:
 
     def copy(self) -> Certified:
         """One that is closed by itself."""
-        return Certified(self._another())
+        return type(self)(self._another())
 
     def _another(self) -> Owner:
-        other = Owner()
+        other = self.owner()
         with _sharing:
-            status = library.misere_share(*self._first.words, *other.words)
+            status = self.share(*self._first.words, *other.words)
         if status:
             raise fault(status)
         return other
@@ -116,6 +130,43 @@ class Certified:
             except IndexError:
                 # (another thread was faster)
                 return
+
+    @classmethod
+    def _refusal(cls, status: int, certificate: bytes, limit: int, room: int) -> MisereError:
+        """Why a certificate is refused. The position at which the rule of the game fails is told by a check of its own,
+        and by one more if the room is too small for its heaps."""
+        if status != OUTCOME:
+            return fault(status, cls.meanings.get(status))
+        told, count = array.array("Q", bytes(8 * room)), ctypes.c_uint64()
+        status = cls.failure(certificate, len(certificate), limit, *words_of(told), ctypes.addressof(count))
+        if status != OUTCOME:
+            return fault(status, cls.meanings.get(status))
+        if count.value > room:
+            return cls._refusal(status, certificate, limit, count.value)
+        return fault(status, position=told[: count.value].tolist())
+
+
+class Finite(Certified):
+    """A certificate of a quotient."""
+
+    __slots__ = ()
+    owner = Owner
+    open, share, failure = library.misere_open, library.misere_share, library.misere_failure
+    outcome, outcomes = library.misere_opened_outcome, library.misere_opened_outcomes
+    value, values = library.misere_opened_value, library.misere_opened_values
+    answer, answers = library.misere_opened_answer, library.misere_opened_answers
+    describe = library.misere_opened_describe
+
+
+class Infinite(Certified):
+    """A certificate of an infinite quotient."""
+
+    __slots__ = ()
+    owner = InfiniteOwner
+    open, share, failure = library.misere_infinite_open, library.misere_infinite_share, library.misere_infinite_failure
+    outcome, outcomes = library.misere_infinite_outcome, library.misere_infinite_outcomes
+    answer, answers = library.misere_infinite_answer, library.misere_infinite_answers
+    meanings = {LIMIT_MET: "more pairs, places, points or changes than the check takes"}
 
 
 # First owners are shared by one thread at a time. (A thread that a handler of signals interrupts may share again, and the
@@ -129,19 +180,3 @@ def _renew() -> None:
 
 
 os.register_at_fork(after_in_child=_renew)
-
-
-def refusal(status: int, certificate: bytes, limit: int) -> MisereError:
-    """Why a certificate is refused: with the position at which the rule of the game fails, if its heaps are told."""
-    if status != OUTCOME:
-        return fault(status)
-    return _failing(certificate, limit, USUAL_HEAPS)
-
-
-def _failing(certificate: bytes, limit: int, room: int) -> MisereError:
-    """The fault with the position at which the rule fails, told by a second check if the room is too small for it."""
-    told, count = array.array("Q", bytes(8 * room)), ctypes.c_uint64()
-    status = library.misere_failure(certificate, len(certificate), limit, *words_of(told), ctypes.addressof(count))
-    if status == OUTCOME and count.value > room:
-        return _failing(certificate, limit, count.value)
-    return fault(status, position=told[: count.value].tolist() if status == OUTCOME else None)

@@ -4,7 +4,7 @@ from __future__ import annotations
 
 from typing import Any
 
-#: The statuses of the library's calls. 1 to 9 and 23 are the program's numbers too.
+#: The statuses of the library's calls. 1 to 9, 23 and 31 to 34 are the program's numbers too.
 NAMES = {
     0: "Yes",
     1: "Text",
@@ -25,8 +25,12 @@ NAMES = {
     16: "NotDescribed",
     17: "NotOpen",
     23: "Beyond",
+    31: "Part",
+    32: "Idle",
+    33: "Undecided",
+    34: "Ray",
 }
-TEXT, OUTCOME, MEMORY, NOT_A_HEAP, NOT_A_CODE, GAVE_UP = 1, 7, 9, 10, 12, 13
+TEXT, OUTCOME, LIMIT_MET, MEMORY, NOT_A_HEAP, NOT_A_CODE, GAVE_UP = 1, 7, 8, 9, 10, 12, 13
 NO_ROOM, NOT_IN_RANGE, NOT_DESCRIBED, NOT_OPEN, BEYOND = 14, 15, 16, 17, 23
 
 _MEANINGS = {
@@ -48,7 +52,11 @@ _MEANINGS = {
     15: "a bound or a choice is out of its range",
     16: "the quotient is not described within the bounds",
     17: "the quotient is closed",
-    23: "the certificate is partial, and does not speak of all the heaps",
+    23: "the certificate does not speak of all the heaps",
+    31: "some option of one of its heaps has a heap of which it does not speak",
+    32: "an element is P at a place where no position with this element is",
+    33: "the rule was not seen to hold, and no position was found at which it fails",
+    34: "the claim is right, but its three positions do not show that the quotient is infinite",
 }
 
 
@@ -69,7 +77,7 @@ class MisereError(Exception):
 
 
 class Refused(MisereError, ValueError):
-    """The bytes are not an accepted certificate (1 to 8)."""
+    """The bytes are not an accepted certificate (1 to 8, or 31 to 34 of an infinite quotient)."""
 
 
 class NoMemory(MisereError, MemoryError):
@@ -105,7 +113,7 @@ class NotOpen(MisereError, ValueError):
 
 
 class Beyond(MisereError, ValueError):
-    """The certificate is partial, and doesn't speak of all the heaps (23)."""
+    """The certificate doesn't speak of all the heaps (23)."""
 
 
 class Absent(MisereError, KeyError):
@@ -127,7 +135,7 @@ class WrongType(MisereError, TypeError):
 
 
 _KINDS: dict[int, type[MisereError]] = {
-    **dict.fromkeys(range(1, 9), Refused),
+    **dict.fromkeys([*range(1, 9), *range(31, 35)], Refused),
     MEMORY: NoMemory,
     NOT_A_HEAP: NotAHeap,
     NOT_A_CODE: NotACode,

@@ -4,6 +4,7 @@ from __future__ import annotations
 
 from collections.abc import Iterator
 
+from ._asked import Given
 from ._bounds import (
     ELEMENTS,
     FEW_HEAPS,
@@ -21,8 +22,9 @@ from ._bounds import (
 )
 from ._faults import GAVE_UP, NOT_A_CODE, NOT_IN_RANGE, MisereError, NotACode, NotFound, NotInRange, WrongType, fault
 from ._given import number_of
+from ._infinite import InfiniteQuotient
 from ._library import library, told_by
-from ._quotient import Given, Quotient
+from ._quotient import Quotient
 
 # Of which heaps a search is to find the quotient
 WHOLE, PART, FURTHEST = 0, 1, 2
@@ -32,6 +34,12 @@ def check(certificate: Given, limit: int = LIMIT) -> Quotient:
     """The quotient that the certificate is of; or it raises Refused. The certificate is its bytes, their text, or the
     path of its file, as pathlib.Path("0.33.mqc"): a str is the text itself."""
     return Quotient(certificate, limit)
+
+
+def check_infinite(certificate: Given, limit: int = LIMIT) -> InfiniteQuotient:
+    """The infinite quotient that the certificate is of; or it raises Refused. The certificate is given as to `check`, and
+    begins with mqi 1."""
+    return InfiniteQuotient(certificate, limit)
 
 
 def solve(

@@ -87,15 +87,23 @@ def no_heap(number: int, place: Sequence[int]) -> MisereError:
     return fault(NOT_A_HEAP, f"a heap is of 1 to 10^18, and {number} isn't{at}{more}")
 
 
-def refusal_of(status: int, heaps: Sequence[int], last: int | None, ends: Sequence[int] | None = None) -> MisereError:
+def refusal_of(
+    status: int,
+    heaps: Sequence[int],
+    last: int | None,
+    left_out: Sequence[int] = (),
+    ends: Sequence[int] | None = None,
+) -> MisereError:
     """The fault that a status is which was answered of these heaps, with the heap that it is about. Those of many
-    positions stand one after another, with the ends of these."""
+    positions stand one after another, with the ends of these. The certificate speaks of the heaps up to the last one, but
+    for those that it leaves out."""
     if status == NOT_A_HEAP:
         at = next((at for at, it in enumerate(heaps) if not is_heap(it)), None)
         return fault(status) if at is None else no_heap(heaps[at], _place_of(at, ends))
     if status == BEYOND and last is not None:
-        wrong = next((it for it in heaps if it > last), "one")
-        return fault(status, f"the certificate speaks of heaps to {last} alone, and not of {wrong}")
+        wrong = next((it for it in heaps if it > last or it in left_out), "one")
+        without = f" without {' '.join(map(str, left_out))}" if left_out else ""
+        return fault(status, f"the certificate speaks of heaps to {last}{without} alone, and not of {wrong}")
     return fault(status)
 
 

@@ -25,7 +25,7 @@ class Told(ctypes.Structure):
 
 
 class Opened(ctypes.Structure):
-    """An owner of an opened quotient, or of none, as which it begins."""
+    """An owner of an opened quotient, finite or infinite, or of none, as which it begins."""
 
     _fields_ = [("full", ctypes.c_uint64), ("kept", ctypes.c_void_p)]
 
@@ -54,6 +54,15 @@ CALLS: dict[str, list[Any]] = {
     "misere_opened_values": [_owner, _slice, _size, _slice, _size, _slice, _size],
     "misere_opened_answers": [_owner, _slice, _size, _slice, _size, _slice, _size],
     "misere_opened_describe": [_owner, _number, _number, _slice, _size, _count],
+    "misere_check_infinite": [*_bytes, _number],
+    "misere_infinite_failure": [*_bytes, _number, _slice, _size, _count],
+    "misere_infinite_open": [*_bytes, _number, _owner],
+    "misere_infinite_share": [_owner, _owner],
+    "misere_infinite_close": [_owner],
+    "misere_infinite_outcome": [_owner, _slice, _size, _word],
+    "misere_infinite_answer": [_owner, _slice, _size, _move],
+    "misere_infinite_outcomes": [_owner, _slice, _size, _slice, _size, _slice, _size],
+    "misere_infinite_answers": [_owner, _slice, _size, _slice, _size, _slice, _size],
 }
 
 Call = Callable[..., int]

@@ -78,7 +78,9 @@ def files_of(version: str, tag: str) -> dict[str, bytes]:
     files = {f"misere/{it.name}": it.read_bytes() for it in sorted((here / "misere").iterdir()) if it.is_file()}
     files[f"misere/{LIBRARY}"] = (here / LIBRARY).read_bytes()
     files["misere/VERSION"] = (here.parent / "VERSION").read_bytes()
-    files.update({f"misere/atlas/{it.name}": it.read_bytes() for it in sorted((here.parent / "atlas").glob("*.json"))})
+    atlas = here.parent / "atlas"
+    certificates = [*sorted(atlas.glob("*.json")), *sorted(atlas.glob("infinite/*.mqi"))]
+    files.update({f"misere/atlas/{it.relative_to(atlas)}": it.read_bytes() for it in certificates})
     about = f"misere-{version}.dist-info"
     metadata = METADATA.format(version=version, description=(here / "README.md").read_text())
     files[f"{about}/METADATA"] = metadata.encode()

@@ -16,6 +16,11 @@ def quotient(name: str) -> misere.Quotient:
     return misere.check((samples / f"{name}.mqc").read_bytes())
 
 
+def infinite(name: str) -> misere.InfiniteQuotient:
+    """That of a sample of an infinite quotient."""
+    return misere.check_infinite((samples / f"{name}.mqi").read_bytes())
+
+
 def raised(call: Callable[[], object]) -> misere.MisereError | None:
     """What a call raises."""
     try:

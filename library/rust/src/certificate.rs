@@ -40,6 +40,15 @@ impl Certificate {
     }
 }
 
+/// Which heaps a certificate of an infinite quotient speaks of: those up to the last one, but for some.
+#[derive(Debug)]
+pub(crate) struct Part {
+    pub code: String,
+    pub last_heap: u64,
+    /// Rising.
+    pub without: Vec<u64>,
+}
+
 /// The words of the lines of this name, a line each.
 fn lines<'a>(text: &'a str, name: &'a str) -> impl Iterator<Item = std::str::Split<'a, char>> {
     text.lines().filter_map(move |line| line.strip_prefix(name)?.strip_prefix(' ')).map(|words| words.split(' '))
@@ -70,5 +79,16 @@ pub(crate) fn read(bytes: &[u8]) -> Option<Certificate> {
         keys: lines(text, "words").next()?.map(key).collect::<Option<_>>()?,
         rows: lines(text, "row").map(numbers).collect::<Option<_>>()?,
         made: OnceLock::new(),
+    })
+}
+
+/// What a text of an infinite quotient says of its heaps; none of a text that is no certificate. A heap that is left out is a minus in
+/// the line of their elements.
+pub(crate) fn read_part(bytes: &[u8]) -> Option<Part> {
+    let text = std::str::from_utf8(bytes).ok()?;
+    Some(Part {
+        code: lines(text, "code").next()?.collect(),
+        last_heap: lines(text, "heaps").next()?.next()?.parse().ok()?,
+        without: (1..).zip(lines(text, "phi").next()?).filter(|(_, element)| *element == "-").map(|(heap, _)| heap).collect(),
     })
 }

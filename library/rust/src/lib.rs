@@ -14,6 +14,8 @@
 //! partial certificate: of its heaps). [`Quotient::phi`], [`Quotient::portion`] and [`Quotient::table`] are read off the certificate's
 //! text, which a yes makes the misère quotient.
 //!
+//! A game whose quotient is infinite may have certificates too: [`InfiniteQuotient`] tells what they say.
+//!
 //! The certificate is checked once, and the library keeps the quotient until its last clone is dropped. A [`Quotient`] is sent from thread
 //! to thread, and each thread that asks at the same time has a clone.
 
@@ -23,6 +25,7 @@ mod answers;
 mod bounds;
 mod certificate;
 mod finding;
+mod infinite;
 mod opened;
 mod quotient;
 mod raw;
@@ -31,6 +34,7 @@ mod refusal;
 pub use answers::{Answer, Outcome};
 pub use bounds::LIMIT;
 pub use finding::{Aim, Bounds, NotFound};
+pub use infinite::InfiniteQuotient;
 pub use quotient::{Output, Quotient};
 pub use refusal::Refusal;
 
@@ -45,11 +49,20 @@ pub fn version() -> u32 {
 
 /// The heaps of a position at which the rule of the code's game fails, if the bytes are refused for that.
 pub fn failure(bytes: &[u8], limit: u32) -> Option<Vec<u64>> {
+    failing(raw::misere_failure, bytes, limit)
+}
+
+/// The same of a certificate of an infinite quotient.
+pub fn infinite_failure(bytes: &[u8], limit: u32) -> Option<Vec<u64>> {
+    failing(raw::misere_infinite_failure, bytes, limit)
+}
+
+fn failing(call: raw::Failure, bytes: &[u8], limit: u32) -> Option<Vec<u64>> {
     let mut told = vec![0; USUAL_HEAPS];
     loop {
         let (room, mut count) = (told.len(), 0);
         // SAFETY: each pointer stands with the length of its slice, and `count` is borrowed for the call.
-        let status = unsafe { raw::misere_failure(bytes.as_ptr(), bytes.len(), limit, told.as_mut_ptr(), room, &mut count) };
+        let status = unsafe { call(bytes.as_ptr(), bytes.len(), limit, told.as_mut_ptr(), room, &mut count) };
         if Refusal(status) != Refusal::OUTCOME {
             return None;
         }

@@ -1,37 +1,84 @@
-//! A quotient that the library keeps.
+//! A quotient that the library keeps, finite or infinite.
 
 use crate::raw;
 use crate::refusal::{Refusal, done};
 use std::alloc::{Layout, handle_alloc_error};
 use std::cell::UnsafeCell;
+use std::marker::PhantomData;
+
+/// The calls on opened quotients of a kind.
+pub(crate) struct Calls {
+    open: raw::Open,
+    share: raw::Share,
+    close: raw::Close,
+    outcome: raw::OneOpened<u32>,
+    answer: raw::OneSorted,
+    outcomes: raw::ManyOpened<u32>,
+    answers: raw::ManyOpened<raw::Told>,
+}
+
+/// A kind of quotients.
+pub(crate) trait Kind {
+    const CALLS: Calls;
+}
+
+/// Quotients.
+pub(crate) struct Finite;
+
+impl Kind for Finite {
+    const CALLS: Calls = Calls {
+        open: raw::misere_open,
+        share: raw::misere_share,
+        close: raw::misere_close,
+        outcome: raw::misere_opened_outcome,
+        answer: raw::misere_opened_answer,
+        outcomes: raw::misere_opened_outcomes,
+        answers: raw::misere_opened_answers,
+    };
+}
+
+/// Infinite quotients.
+pub(crate) struct Infinite;
+
+impl Kind for Infinite {
+    const CALLS: Calls = Calls {
+        open: raw::misere_infinite_open,
+        share: raw::misere_infinite_share,
+        close: raw::misere_infinite_close,
+        outcome: raw::misere_infinite_outcome,
+        answer: raw::misere_infinite_answer,
+        outcomes: raw::misere_infinite_outcomes,
+        answers: raw::misere_infinite_answers,
+    };
+}
 
 /// An owner of a quotient that the library keeps: it was checked once, and the last owner that is dropped frees it.
 ///
 /// One thread at a time asks an owner. A clone is another owner of the same quotient, as for another thread.
-pub(crate) struct Opened(UnsafeCell<raw::Opened>);
+pub(crate) struct Opened<K: Kind>(UnsafeCell<raw::Opened>, PhantomData<K>);
 
 // SAFETY: a call is given an owner alone, from whatever thread. What owners share is the library's, which lets their threads
 // call at once.
-unsafe impl Send for Opened {}
+unsafe impl<K: Kind> Send for Opened<K> {}
 
-impl Opened {
-    fn closed() -> Opened {
-        Opened(UnsafeCell::new(raw::Opened::CLOSED))
+impl<K: Kind> Opened<K> {
+    fn closed() -> Opened<K> {
+        Opened(UnsafeCell::new(raw::Opened::CLOSED), PhantomData)
     }
 
     /// An owner of what the bytes certify, or the refusal.
-    pub fn check(bytes: &[u8], limit: u32) -> Result<Opened, Refusal> {
+    pub fn check(bytes: &[u8], limit: u32) -> Result<Opened<K>, Refusal> {
         let mut opened = Opened::closed();
         // SAFETY: the pointer and the length are those of one slice, and the owner is borrowed for the call.
-        let status = unsafe { raw::misere_open(bytes.as_ptr(), bytes.len(), limit, opened.0.get_mut()) };
+        let status = unsafe { (K::CALLS.open)(bytes.as_ptr(), bytes.len(), limit, opened.0.get_mut()) };
         done(status, opened)
     }
 
     /// Another owner of the same quotient. It is refused if memory is.
-    pub fn share(&self) -> Result<Opened, Refusal> {
+    pub fn share(&self) -> Result<Opened<K>, Refusal> {
         let mut other = Opened::closed();
         // SAFETY: both are owners or closed ones, each borrowed for the call alone.
-        let status = unsafe { raw::misere_share(self.alone(), other.0.get_mut()) };
+        let status = unsafe { (K::CALLS.share)(self.alone(), other.0.get_mut()) };
         done(status, other)
     }
 
@@ -61,30 +108,32 @@ impl Opened {
     }
 
     pub fn outcome(&self, heaps: &[u64]) -> Result<u32, Refusal> {
-        self.asked(raw::misere_opened_outcome, heaps)
-    }
-
-    pub fn value(&self, heaps: &[u64]) -> Result<u32, Refusal> {
-        self.asked(raw::misere_opened_value, heaps)
+        self.asked(K::CALLS.outcome, heaps)
     }
 
     pub fn answer(&self, heaps: &[u64]) -> Result<raw::Told, Refusal> {
         let (mut heaps, mut told) = (heaps.to_vec(), raw::Told::default());
         // SAFETY: the pointer stands with the length of its slice, and the rest is borrowed for the call.
-        let status = unsafe { raw::misere_opened_answer(self.alone(), heaps.as_mut_ptr(), heaps.len(), &mut told) };
+        let status = unsafe { (K::CALLS.answer)(self.alone(), heaps.as_mut_ptr(), heaps.len(), &mut told) };
         done(status, told)
     }
 
     pub fn outcomes(&self, positions: &[&[u64]]) -> Result<Vec<u32>, Refusal> {
-        self.asked_of_all(raw::misere_opened_outcomes, positions)
+        self.asked_of_all(K::CALLS.outcomes, positions)
+    }
+
+    pub fn answers(&self, positions: &[&[u64]]) -> Result<Vec<raw::Told>, Refusal> {
+        self.asked_of_all(K::CALLS.answers, positions)
+    }
+}
+
+impl Opened<Finite> {
+    pub fn value(&self, heaps: &[u64]) -> Result<u32, Refusal> {
+        self.asked(raw::misere_opened_value, heaps)
     }
 
     pub fn values(&self, positions: &[&[u64]]) -> Result<Vec<u32>, Refusal> {
         self.asked_of_all(raw::misere_opened_values, positions)
-    }
-
-    pub fn answers(&self, positions: &[&[u64]]) -> Result<Vec<raw::Told>, Refusal> {
-        self.asked_of_all(raw::misere_opened_answers, positions)
     }
 
     pub fn describe(&self, output: u32, form: u32, told: &mut [u8], count: &mut u64) -> u32 {
@@ -102,16 +151,16 @@ fn ends_of(positions: &[&[u64]]) -> Vec<u64> {
     ends.collect()
 }
 
-impl Clone for Opened {
-    /// Another owner. Where memory is refused it ends as other allocations do; `Quotient::try_clone` tells it.
-    fn clone(&self) -> Opened {
+impl<K: Kind> Clone for Opened<K> {
+    /// Another owner. Where memory is refused it ends as other allocations do; `try_clone` of a quotient tells it.
+    fn clone(&self) -> Opened<K> {
         self.share().unwrap_or_else(|_| handle_alloc_error(Layout::new::<raw::Opened>()))
     }
 }
 
-impl Drop for Opened {
+impl<K: Kind> Drop for Opened<K> {
     fn drop(&mut self) {
         // SAFETY: it is an owner or a closed one, and nobody has it any more.
-        unsafe { raw::misere_close(self.0.get_mut()) };
+        unsafe { (K::CALLS.close)(self.0.get_mut()) };
     }
 }

@@ -4,7 +4,7 @@ use crate::answers::{Answer, Outcome};
 use crate::bounds::{LARGEST_HEAP, LIMIT, MOST_BYTES};
 use crate::certificate::{Certificate, read};
 use crate::finding::{Aim, Bounds, NotFound};
-use crate::opened::Opened;
+use crate::opened::{Finite, Opened};
 use crate::raw;
 use crate::refusal::{Refusal, done};
 use std::fmt;
@@ -42,7 +42,7 @@ pub enum Output {
 /// ```
 #[derive(Clone)]
 pub struct Quotient {
-    opened: Opened,
+    opened: Opened<Finite>,
     bytes: Arc<[u8]>,
     certificate: Arc<Certificate>,
 }

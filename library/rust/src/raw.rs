@@ -16,7 +16,7 @@ pub struct Told {
     pub third: u64,
 }
 
-/// An owner of an opened quotient, or of none.
+/// An owner of an opened quotient, finite or infinite, or of none.
 #[repr(C)]
 pub struct Opened {
     pub full: u64,
@@ -27,6 +27,11 @@ impl Opened {
     pub const CLOSED: Opened = Opened { full: 0, kept: null_mut() };
 }
 
+pub type Open = unsafe extern "C" fn(*const u8, usize, u32, &mut Opened) -> u32;
+pub type Share = unsafe extern "C" fn(&mut Opened, &mut Opened) -> u32;
+pub type Close = unsafe extern "C" fn(&mut Opened) -> u32;
+pub type OneSorted = unsafe extern "C" fn(&mut Opened, *mut u64, usize, &mut Told) -> u32;
+pub type Failure = unsafe extern "C" fn(*const u8, usize, u32, *mut u64, usize, &mut u64) -> u32;
 pub type OneOpened<T> = unsafe extern "C" fn(&mut Opened, *const u64, usize, &mut T) -> u32;
 pub type ManyOpened<T> = unsafe extern "C" fn(&mut Opened, *const u64, usize, *const u64, usize, *mut T, usize) -> u32;
 
@@ -129,4 +134,29 @@ unsafe extern "C" {
         room: usize,
     ) -> u32;
     pub fn misere_opened_describe(opened: &mut Opened, output: u32, form: u32, told: *mut u8, room: usize, count: &mut u64) -> u32;
+    pub fn misere_check_infinite(bytes: *const u8, length: usize, limit: u32) -> u32;
+    pub fn misere_infinite_failure(bytes: *const u8, length: usize, limit: u32, told: *mut u64, room: usize, count: &mut u64) -> u32;
+    pub fn misere_infinite_open(bytes: *const u8, length: usize, limit: u32, told: &mut Opened) -> u32;
+    pub fn misere_infinite_share(opened: &mut Opened, told: &mut Opened) -> u32;
+    pub fn misere_infinite_close(opened: &mut Opened) -> u32;
+    pub fn misere_infinite_outcome(opened: &mut Opened, heaps: *const u64, count: usize, told: &mut u32) -> u32;
+    pub fn misere_infinite_answer(opened: &mut Opened, heaps: *mut u64, count: usize, told: &mut Told) -> u32;
+    pub fn misere_infinite_outcomes(
+        opened: &mut Opened,
+        heaps: *const u64,
+        count: usize,
+        ends: *const u64,
+        positions: usize,
+        told: *mut u32,
+        room: usize,
+    ) -> u32;
+    pub fn misere_infinite_answers(
+        opened: &mut Opened,
+        heaps: *const u64,
+        count: usize,
+        ends: *const u64,
+        positions: usize,
+        told: *mut Told,
+        room: usize,
+    ) -> u32;
 }

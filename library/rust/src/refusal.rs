@@ -2,14 +2,15 @@
 
 use std::fmt;
 
-/// Why a call told nothing. 1 to 9 are the checker's refusals.
+/// Why a call told nothing. 1 to 9 are the checker's refusals, and 31 to 34 those of infinite quotients beside these.
 #[derive(Clone, Copy, Debug, PartialEq, Eq)]
 pub struct Refusal(pub u32);
 
 impl Refusal {
     /// The bytes spell no certificate.
     pub const TEXT: Refusal = Refusal(1);
-    /// The rule of the code's game fails at a position: [`failure`](crate::failure) tells it.
+    /// The rule of the code's game fails at a position: [`failure`](crate::failure) tells it, or
+    /// [`infinite_failure`](crate::infinite_failure).
     pub const OUTCOME: Refusal = Refusal(7);
     /// A heap is not of 1 to 10^18.
     pub const NOT_A_HEAP: Refusal = Refusal(10);
@@ -17,7 +18,7 @@ impl Refusal {
     pub const GAVE_UP: Refusal = Refusal(13);
     /// There is no room for a text.
     pub(crate) const NO_ROOM: Refusal = Refusal(14);
-    /// The certificate is partial, and does not speak of all the heaps.
+    /// The certificate does not speak of all the heaps.
     pub const BEYOND: Refusal = Refusal(23);
 
     /// The refusal's name, as the program prints it.
@@ -41,6 +42,10 @@ impl Refusal {
             16 => "NotDescribed",
             17 => "NotOpen",
             23 => "Beyond",
+            31 => "Part",
+            32 => "Idle",
+            33 => "Undecided",
+            34 => "Ray",
             _ => "Unknown",
         }
     }

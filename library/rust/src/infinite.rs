@@ -1,0 +1,100 @@
+//! A certified infinite quotient, and what it is asked.
+
+use crate::answers::{Answer, Outcome};
+use crate::bounds::LIMIT;
+use crate::certificate::{Part, read_part};
+use crate::opened::{Infinite, Opened};
+use crate::refusal::Refusal;
+use std::fmt;
+use std::sync::Arc;
+
+/// A certified infinite misère quotient: the outcomes of all positions of some heaps of a game, which no finite quotient predicts. It is
+/// made by a check alone, and doesn't change.
+///
+/// A game may have several certificates, with other heaps or monoids. They never contradict each other. What is said of threads, clones
+/// and drops of a [`Quotient`](crate::Quotient) holds of these.
+#[derive(Clone)]
+pub struct InfiniteQuotient {
+    opened: Opened<Infinite>,
+    bytes: Arc<[u8]>,
+    part: Arc<Part>,
+}
+
+impl InfiniteQuotient {
+    /// The infinite quotient that the certificate is of, which begins with `mqi 1`. [`LIMIT`] is the limit where nobody asks for more or
+    /// less.
+    pub fn check(bytes: impl AsRef<[u8]>, limit: u32) -> Result<InfiniteQuotient, Refusal> {
+        let bytes: Arc<[u8]> = bytes.as_ref().into();
+        let opened = Opened::check(&bytes, limit)?;
+        let part = read_part(&bytes).ok_or(Refusal::TEXT)?;
+        Ok(InfiniteQuotient { opened, bytes, part: Arc::new(part) })
+    }
+
+    /// A clone, or the refusal where memory is refused.
+    pub fn try_clone(&self) -> Result<InfiniteQuotient, Refusal> {
+        Ok(InfiniteQuotient { opened: self.opened.share()?, bytes: self.bytes.clone(), part: self.part.clone() })
+    }
+
+    /// The certificate.
+    pub fn certificate(&self) -> &[u8] {
+        &self.bytes
+    }
+
+    /// The game's code, such as `0.354`.
+    pub fn code(&self) -> &str {
+        &self.part.code
+    }
+
+    /// The last heap of which it speaks.
+    pub fn last_heap(&self) -> u64 {
+        self.part.last_heap
+    }
+
+    /// The heaps below the last one of which it doesn't speak, rising.
+    pub fn without(&self) -> &[u64] {
+        &self.part.without
+    }
+
+    /// Who wins the position.
+    pub fn outcome(&self, heaps: &[u64]) -> Result<Outcome, Refusal> {
+        self.opened.outcome(heaps).map(Outcome::from)
+    }
+
+    /// What to do in the position.
+    pub fn answer(&self, heaps: &[u64]) -> Result<Answer, Refusal> {
+        Ok(Answer::from(&self.opened.answer(heaps)?))
+    }
+
+    /// The outcome of each position.
+    pub fn outcomes(&self, positions: &[&[u64]]) -> Result<Vec<Outcome>, Refusal> {
+        Ok(self.opened.outcomes(positions)?.into_iter().map(Outcome::from).collect())
+    }
+
+    /// What to do in each position.
+    pub fn answers(&self, positions: &[&[u64]]) -> Result<Vec<Answer>, Refusal> {
+        Ok(self.opened.answers(positions)?.iter().map(Answer::from).collect())
+    }
+}
+
+impl PartialEq for InfiniteQuotient {
+    fn eq(&self, other: &InfiniteQuotient) -> bool {
+        self.certificate() == other.certificate()
+    }
+}
+
+impl Eq for InfiniteQuotient {}
+
+impl fmt::Debug for InfiniteQuotient {
+    fn fmt(&self, f: &mut fmt::Formatter) -> fmt::Result {
+        let (code, last_heap, without) = (self.code(), self.last_heap(), self.without());
+        f.debug_struct("InfiniteQuotient").field("code", &code).field("last_heap", &last_heap).field("without", &without).finish()
+    }
+}
+
+impl TryFrom<&[u8]> for InfiniteQuotient {
+    type Error = Refusal;
+
+    fn try_from(bytes: &[u8]) -> Result<InfiniteQuotient, Refusal> {
+        InfiniteQuotient::check(bytes, LIMIT)
+    }
+}

@@ -1,0 +1,90 @@
+//! What the crate tells of samples of infinite quotients, beside the families of docs/INFINITE.md.
+
+use misere::{Answer, InfiniteQuotient, LIMIT, Outcome, Quotient, Refusal};
+use std::path::Path;
+use std::thread;
+
+const THREADS: usize = 8;
+
+fn sample(name: &str) -> Vec<u8> {
+    let file = Path::new(env!("CARGO_MANIFEST_DIR")).join("../../certificates").join(name);
+    std::fs::read(file).unwrap()
+}
+
+fn infinite(name: &str) -> InfiniteQuotient {
+    InfiniteQuotient::check(sample(name), LIMIT).unwrap()
+}
+
+/// So many heaps of each of these.
+fn heaps(numbers: &[(u64, usize)]) -> Vec<u64> {
+    numbers.iter().flat_map(|&(heap, count)| vec![heap; count]).collect()
+}
+
+#[test]
+fn it_says_of_which_heaps_it_speaks() {
+    let whole = infinite("0.354_heaps_5.mqi");
+    assert_eq!((whole.code(), whole.last_heap(), whole.without()), ("0.354", 5, [].as_slice()));
+    let part = infinite("0.07_heaps_34_without_33.mqi");
+    assert_eq!((part.code(), part.last_heap(), part.without()), ("0.07", 34, [33].as_slice()));
+    for (heap, told) in [(0, Refusal::NOT_A_HEAP), (33, Refusal::BEYOND), (35, Refusal::BEYOND)] {
+        assert_eq!((part.outcome(&[1, heap]), part.answer(&[1, heap])), (Err(told), Err(told)), "heap {heap}");
+    }
+}
+
+#[test]
+fn families_are_told_as_they_are() {
+    let quotient = infinite("0.354_heaps_5.mqi");
+    for (twos, fives) in (1..9).flat_map(|j| (1..40).map(move |i| (j, i))) {
+        let is_p = fives >= 3 * twos + 4 && (fives - 3 * twos) % 6 == 4;
+        let told = quotient.outcome(&heaps(&[(4, 1), (2, twos), (5, fives)]));
+        assert_eq!(told, Ok(if is_p { Outcome::P } else { Outcome::N }), "{twos} {fives}");
+    }
+    let kayles = infinite("0.07_heaps_34_without_33.mqi");
+    for (j, k) in (1..9).flat_map(|j| (2..9).map(move |k| (j, k))) {
+        let is_p = k <= j && (j - k) % 2 == 0;
+        let told = kayles.outcome(&heaps(&[(25, 1), (30, j), (34, k)]));
+        assert_eq!(told, Ok(if is_p { Outcome::P } else { Outcome::N }), "{j} {k}");
+    }
+}
+
+#[test]
+fn many_are_told_as_one_by_one() {
+    let quotient = infinite("0.354_heaps_5.mqi");
+    let wins = heaps(&[(5, 8), (4, 1), (2, 1)]);
+    let lost = heaps(&[(2, 1), (4, 1), (5, 7)]);
+    let positions: [&[u64]; 4] = [&[], &[1], &wins, &lost];
+    let answers = [Answer::Ended, Answer::Lost, Answer::Wins { heap: 4, left: vec![3] }, Answer::Lost];
+    assert_eq!(quotient.answers(&positions).as_deref(), Ok(answers.as_slice()));
+    assert_eq!(quotient.outcomes(&positions), Ok(vec![Outcome::N, Outcome::P, Outcome::N, Outcome::P]));
+    for (heaps, answer) in positions.iter().zip(answers) {
+        assert_eq!(quotient.answer(heaps), Ok(answer));
+    }
+}
+
+#[test]
+fn refusals_have_their_numbers() {
+    let (finite, ray) = (sample("0.33.mqc"), sample("refused/ray_down_too_short.mqi"));
+    assert_eq!(InfiniteQuotient::check(&finite, LIMIT), Err(Refusal(1)));
+    assert_eq!(Quotient::check(sample("0.354_heaps_5.mqi"), LIMIT), Err(Refusal(1)));
+    assert_eq!(InfiniteQuotient::check(&ray, LIMIT).unwrap_err().to_string(), "34 Ray");
+    assert_eq!(InfiniteQuotient::check(sample("0.354_heaps_5.mqi"), 1), Err(Refusal(8)));
+    for (name, heaps) in [("two_and_three", vec![2, 3]), ("two_elevens", vec![11, 11])] {
+        let bytes = sample(&format!("refused/outcome_at_{name}.mqi"));
+        assert_eq!(InfiniteQuotient::check(&bytes, LIMIT), Err(Refusal::OUTCOME));
+        assert_eq!(misere::infinite_failure(&bytes, LIMIT), Some(heaps), "{name}");
+    }
+    assert_eq!(misere::infinite_failure(&ray, LIMIT), None);
+}
+
+#[test]
+fn each_thread_asks_a_clone() {
+    let quotient = infinite("0.354_heaps_5.mqi");
+    let asked = |it: &InfiniteQuotient| (1..50).map(|fives| it.answer(&heaps(&[(4, 1), (2, 3), (5, fives)]))).collect::<Vec<_>>();
+    let (alone, again) = (asked(&quotient), quotient.try_clone().unwrap());
+    let threads: Vec<_> = (0..THREADS).map(|_| quotient.clone()).map(|it| thread::spawn(move || asked(&it))).collect();
+    drop(quotient);
+    for thread in threads {
+        assert_eq!(thread.join().unwrap(), alone);
+    }
+    assert_eq!((asked(&again), &again), (alone, &infinite("0.354_heaps_5.mqi")));
+}

@@ -1,0 +1,199 @@
+"""Infinite quotients: what is told of samples, beside a search of all plays and the families of docs/INFINITE.md."""
+
+from __future__ import annotations
+
+import copy
+import itertools
+import pathlib
+import pickle
+import random
+import tempfile
+import threading
+import unittest
+from collections.abc import Callable
+from typing import NamedTuple
+
+import misere
+from compare import search_of
+from tests import infinite, quotient, raised, samples, top
+
+SMALL, THREADS = 200, 8
+
+
+def outcome_of(twos: int, fives: int) -> str:
+    """4 + j·2 + i·5, with j and i from 1 on, is P exactly if i - 3j is 4, 10, 16, .."""
+    more = fives - 3 * twos
+    return "P" if more >= 4 and more % 6 == 4 else "N"
+
+
+class Infinite(unittest.TestCase):
+    of = infinite("0.354_heaps_5")
+
+    def test_it_says_of_which_heaps_it_speaks(self) -> None:
+        self.assertEqual((self.of.code, self.of.last_heap, self.of.without), ("0.354", 5, ()))
+        self.assertEqual(repr(self.of), "<infinite misère quotient of 0.354: heaps to 5>")
+        part = infinite("0.07_heaps_34_without_33")
+        self.assertEqual((part.code, part.last_heap, part.without), ("0.07", 34, (33,)))
+        self.assertEqual(repr(part), "<infinite misère quotient of 0.07: heaps to 34 without 33>")
+
+    def test_a_family_is_told_as_it_is(self) -> None:
+        numbers = list(itertools.product(range(1, 9), range(1, 40)))
+        positions = [[4] + [2] * twos + [5] * fives for twos, fives in numbers]
+        outcomes = [outcome_of(*it) for it in numbers]
+        self.assertEqual(self.of.outcomes(positions), outcomes)
+        self.assertEqual([self.of.outcome(it) for it in positions], outcomes)
+        for heaps, outcome, answer in zip(positions, outcomes, self.of.answers(positions)):
+            self.assertEqual(isinstance(answer, misere.Move), outcome == "N", heaps)
+
+    def test_answers_are_moves(self) -> None:
+        self.assertEqual((self.of.answer([]), self.of.winning_move([])), ("ended", None))
+        self.assertEqual((self.of.answer([1]), self.of.winning_move([1])), ("lost", None))
+        self.assertEqual(self.of.answer([5] * 8 + [4, 2]), misere.Move(4, (3,)))
+        self.assertEqual(self.of.winning_move([2, 4] + [5] * 7), None)
+        self.assertEqual(self.of.answers([[], [1]]), ["ended", "lost"])
+
+    def test_small_positions_are_told_as_a_search_finds_them(self) -> None:
+        chosen, search = random.Random(354), search_of("0.354")
+        positions = [[chosen.randint(1, 5) for _ in range(chosen.randint(0, 7))] for _ in range(SMALL)]
+        self.assertEqual(self.of.outcomes(positions), [search(it) for it in positions])
+
+    def test_a_winning_move_leaves_a_lost_position(self) -> None:
+        chosen = random.Random(5)
+        for _ in range(SMALL):
+            heaps = [chosen.randint(1, 5) for _ in range(chosen.randint(1, 12))]
+            move = self.of.winning_move(heaps)
+            if move is not None:
+                heaps.remove(move.heap)
+                self.assertEqual(self.of.outcome(heaps + list(move.left)), "P", (heaps, move))
+
+    def test_dawson_s_kayles_is_told_to_heap_34(self) -> None:
+        of = infinite("0.07_heaps_34_without_33")
+        for j, k in itertools.product(range(1, 8), range(2, 8)):
+            expected = "P" if k <= j and (j - k) % 2 == 0 else "N"
+            self.assertEqual(of.outcome([25] + [30] * j + [34] * k), expected, (j, k))
+
+    def test_it_is_a_value(self) -> None:
+        again = infinite("0.354_heaps_5")
+        self.assertEqual(({self.of, again}, self.of == quotient("0.33")), ({self.of}, False))
+        for other in (copy.copy(self.of), copy.deepcopy(self.of), pickle.loads(pickle.dumps(self.of))):
+            self.assertEqual((other, other.outcome([2, 5])), (self.of, self.of.outcome([2, 5])))
+
+    def test_a_closed_one_is_asked_no_more(self) -> None:
+        with infinite("0.354_heaps_5") as it:
+            other = copy.copy(it)
+        self.assertEqual((it.closed, it.code, it.last_heap, other.outcome([1])), (True, "0.354", 5, "P"))
+        calls: list[Callable[[], object]] = [
+            lambda: it.outcome([1]),
+            lambda: it.answers([[1]]),
+            lambda: copy.copy(it),
+        ]
+        for call in calls:
+            self.assertIsInstance(raised(call), misere.NotOpen)
+
+    def test_each_thread_is_told_as_one_alone(self) -> None:
+        positions = [[4] + [2] * twos + [5] * fives for twos in range(1, 5) for fives in range(1, 20)]
+        told, wrong = self.of.answers(positions), []
+
+        def ask() -> None:
+            if [self.of.answer(it) for it in positions] != told or self.of.answers(positions) != told:
+                wrong.append(1)
+
+        threads = [threading.Thread(target=ask) for _ in range(THREADS)]
+        for thread in threads:
+            thread.start()
+        for thread in threads:
+            thread.join()
+        self.assertEqual(wrong, [])
+
+
+class Row(NamedTuple):
+    name: str
+    call: Callable[[], object]
+    kind: type[misere.MisereError]
+    number: int
+    words: str
+
+
+def refused(name: str) -> Callable[[], object]:
+    return lambda: misere.check_infinite(samples / f"refused/{name}.mqi")
+
+
+OF = Infinite.of
+ROWS = [
+    Row("no heap", lambda: OF.outcome([1, 0]), misere.NotAHeap, 10, "0 isn't, at [1]"),
+    Row("no heap of many", lambda: OF.answers([[1], [2, -1]]), misere.NotAHeap, 10, "-1 isn't, at [1, 1]"),
+    Row("beyond", lambda: OF.outcome([6]), misere.Beyond, 23, "speaks of heaps to 5 alone, and not of 6"),
+    Row("beyond of many", lambda: OF.outcomes([[1], [5, 7]]), misere.Beyond, 23, "not of 7"),
+    Row(
+        "a heap that is left out",
+        lambda: infinite("0.07_heaps_34_without_33").answer([33]),
+        misere.Beyond,
+        23,
+        "speaks of heaps to 34 without 33 alone, and not of 33",
+    ),
+    Row("no text", lambda: misere.check_infinite(b""), misere.Refused, 1, "the bytes spell no certificate"),
+    Row(
+        "one of a finite quotient",
+        lambda: misere.check_infinite(samples / "0.33.mqc"),
+        misere.Refused,
+        1,
+        "misere.check checks such a text",
+    ),
+    Row(
+        "one of an infinite quotient",
+        lambda: misere.check(samples / "0.354_heaps_5.mqi"),
+        misere.Refused,
+        1,
+        "misere.check_infinite checks such a text",
+    ),
+    Row(
+        "a file's name",
+        lambda: misere.check_infinite(str(samples / "0.354_heaps_5.mqi")),
+        misere.Refused,
+        1,
+        "misere.check_infinite(pathlib.Path(",
+    ),
+    Row(
+        "limit met", lambda: misere.check_infinite(OF.certificate, 1), misere.Refused, 8, "8 Limit: more pairs, places"
+    ),
+    Row("a ray that is none", refused("ray_down_too_short"), misere.Refused, 34, "34 Ray: the claim is right"),
+    Row("a wrong outcome", refused("outcome_at_two_elevens"), misere.Refused, 7, "fails at a position: [11, 11]"),
+    Row("another wrong one", refused("outcome_at_two_and_three"), misere.Refused, 7, "fails at a position: [2, 3]"),
+    Row("no entry", lambda: misere.InfiniteCatalogue()["0.33"], misere.Absent, 0, "no entry of '0.33'"),
+]
+
+
+class Faults(unittest.TestCase):
+    def test_each_is_of_its_kind_and_says_why(self) -> None:
+        for row in ROWS:
+            with self.subTest(row.name):
+                stop = raised(row.call)
+                self.assertIsInstance(stop, row.kind)
+                self.assertEqual(stop and stop.number, row.number)
+                self.assertIn(row.words, str(stop))
+
+
+class Catalogues(unittest.TestCase):
+    atlas = misere.InfiniteCatalogue()
+
+    def test_the_atlas_has_each_code_of_its_files(self) -> None:
+        codes = {file.name.partition("_")[0] for file in (top / "atlas/infinite").glob("*.mqi")}
+        self.assertEqual((set(self.atlas), len(self.atlas)), (codes, len(codes)))
+
+    def test_a_game_has_its_code_and_its_name(self) -> None:
+        self.assertEqual(self.atlas["0.354"], Infinite.of)
+        self.assertEqual(self.atlas.certificate("Dawson's Kayles"), self.atlas.certificate("0.07"))
+
+    def test_a_part_has_its_last_heap(self) -> None:
+        files = {34: "0.07_heaps_34", 36: "0.07_heaps_36", 37: "0.07_heaps_37"}
+        for last, name in files.items():
+            text = (top / f"atlas/infinite/{name}.mqi").read_text()
+            self.assertEqual(self.atlas.certificate(("0.07", last)), text, last)
+        self.assertEqual(self.atlas.certificate("0.07"), self.atlas.certificate(("0.07", 37)))
+        self.assertEqual(("0.07", 33) in self.atlas, False)
+
+    def test_a_folder_with_another_text_is_none(self) -> None:
+        with tempfile.TemporaryDirectory() as folder:
+            self.assertEqual(len(misere.InfiniteCatalogue(folder)), 0)
+            pathlib.Path(folder, "a.mqi").write_text("mqi 1\n")
+            self.assertIsInstance(raised(lambda: misere.InfiniteCatalogue(folder)), misere.Refused)
