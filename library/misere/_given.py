@@ -51,7 +51,7 @@ def heaps_of(heaps: Iterable[int], meant: str = ROW, before: tuple[int, ...] = (
     listed = heaps
     if not isinstance(listed, (list, tuple)):
         if is_array(heaps):
-            return _array_of(heaps, 1, meant).heaps
+            return _array_of(heaps, 1, meant, before).heaps
         # (out of bytes an array would be made as out of its memory)
         listed = _listed(heaps, meant)
     try:
@@ -60,8 +60,7 @@ def heaps_of(heaps: Iterable[int], meant: str = ROW, before: tuple[int, ...] = (
         at = next(at for at, it in enumerate(listed) if not is_heap(it))
         raise no_heap(listed[at], (*before, at)) from None
     except TypeError:
-        wrong = next((it for it in listed if not hasattr(it, "__index__")), listed)
-        raise WrongType(NOT_A_HEAP, f"a heap is an integer, and not {wrong!r}") from None
+        raise _no_integer(listed, before) from None
 
 
 def rows_of(positions: Iterable[Iterable[int]]) -> Rows:
@@ -85,6 +84,16 @@ def no_heap(number: int, place: Sequence[int]) -> MisereError:
     more = "; where a 0 is to be no heap, an array of numpy serves" if number == 0 else ""
     at = f", at {list(place)}" if place else ""
     return fault(NOT_A_HEAP, f"a heap is of 1 to 10^18, and {number} isn't{at}{more}")
+
+
+def _no_integer(listed: Sequence[Any], before: tuple[int, ...]) -> MisereError:
+    """The fault of the first entry that is no integer, at its place."""
+    for at, it in enumerate(listed):
+        try:
+            operator.index(it)
+        except TypeError:
+            return WrongType(NOT_A_HEAP, f"a heap is an integer, and not {it!r}, at {[*before, at]}")
+    return WrongType(NOT_A_HEAP, f"heaps are integers, and these aren't: {listed!r}")
 
 
 def refusal_of(
@@ -123,8 +132,9 @@ def _listed(given: Any, meant: str) -> list[Any]:
     return list(items)
 
 
-def _array_of(given: Any, dimensions: int, meant: str) -> Rows:
-    """The rows of an array of numpy, which is there, since this is one of its arrays."""
+def _array_of(given: Any, dimensions: int, meant: str, before: tuple[int, ...] = ()) -> Rows:
+    """The rows of an array of numpy, which is there, since this is one of its arrays. What is before its places is that of
+    the row among many."""
     import numpy
 
     table = numpy.asarray(given)
@@ -134,11 +144,11 @@ def _array_of(given: Any, dimensions: int, meant: str) -> Rows:
         raise WrongType(NOT_A_HEAP, f"{meant}, and an array of {table.ndim} dimensions is none")
     masks: Any = numpy.ma
     if masks.is_masked(given):
-        at = numpy.argwhere(masks.getmaskarray(given))[0].tolist()
+        at = [*before, *numpy.argwhere(masks.getmaskarray(given))[0].tolist()]
         raise WrongType(NOT_A_HEAP, f"a masked entry is no heap, as that at {at}; filled(0) makes them none at all")
     if table.size and not 0 <= int(table.min()) <= int(table.max()) <= LARGEST_HEAP:
         wrong = int(table.min()) if table.min() < 0 else int(table.max())
-        raise no_heap(wrong, numpy.argwhere(table == wrong)[0].tolist())
+        raise no_heap(wrong, [*before, *numpy.argwhere(table == wrong)[0].tolist()])
     rows = numpy.atleast_2d(table)
     there = rows != 0
     heaps, ends = array.array("Q"), array.array("Q")

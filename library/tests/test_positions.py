@@ -138,6 +138,9 @@ class Arrays(unittest.TestCase):
             ("too large", numpy.array([[3], [10**18 + 1]]), "1000000000000000001 isn't, at [1, 0]"),
             ("all bits", numpy.array([[2**64 - 1]], dtype="u8"), "18446744073709551615 isn't, at [0, 0]"),
             ("masked", masked([[1, 2], [3, 4]], mask=[[0, 0], [0, 1]]), "no heap, as that at [1, 1]"),
+            ("a row below nothing", [[3], numpy.array([1, 2, -5])], "-5 isn't, at [1, 2]"),
+            ("a masked row", [[3], [1], masked([1, 2], mask=[0, 1])], "no heap, as that at [2, 1]"),
+            ("a masked entry of a row", [[3], [1, numpy.ma.masked]], "not masked, at [1, 1]"),
         ]
         for name, table, words in rows:
             for call in (asked.values, asked.outcomes, asked.answers):
