@@ -79,7 +79,7 @@ const CALLS = {
 /** The fields of a MisereAnswer, each a number of 64 bits. */
 const FIELDS = ["kind", "heap", "first", "second", "third"];
 
-const OUTPUTS = ["description", "latex", "relations"];
+const OUTPUTS = ["description", "latex", "relations", "json", "singular", "gap"];
 const AIMS = ["whole", "part", "furthest"];
 
 /**
@@ -87,6 +87,7 @@ const AIMS = ["whole", "part", "furthest"];
  * @typedef {{kind: "ended"} | {kind: "lost"} | {kind: "wins", heap: bigint, left: bigint[]}} Answer whether the game is
  *     over, or every move loses, or which the first winning move is: the heap that it takes, and what it leaves of it
  * @typedef {Uint8Array | Uint32Array | BigUint64Array} Numbers
+ * @typedef {"description" | "latex" | "relations" | "json" | "singular" | "gap"} Output
  * @typedef {object} Search how far a search goes
  * @property {"whole" | "part" | "furthest"} [aim] of all heaps; of the heaps 1 to `heaps`; or of the most first ones
  * @property {number} [heaps] the heaps that a search for the whole looks at, or those of the part
@@ -280,10 +281,11 @@ export class Misere {
   }
 
   /**
-   * The description of the quotient that the bytes certify, as plain text or for LaTeX, or its relations as one word.
+   * The description of the quotient that the bytes certify, as plain text, for LaTeX or in JSON; or its relations as
+   * one word, or their ideal for Singular or GAP.
    * @param {Uint8Array} bytes
-   * @param {{output?: "description" | "latex" | "relations", basis?: boolean, limit?: number}} how with `basis`, by the
-   *     relations of the reduced Gröbner basis
+   * @param {{output?: Output, basis?: boolean, limit?: number}} how with `basis`, by the relations of the reduced
+   *     Gröbner basis
    */
   describe(bytes, {output = "description", basis = false, limit = LIMIT} = {}) {
     return this.#text("misere_describe", [bytes, bounded(limit), bounded(OUTPUTS.indexOf(output)), Number(basis)]);

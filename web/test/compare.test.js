@@ -78,7 +78,8 @@ test("samples: each form of a description", async (t) => {
       for (const basis of [false, true]) {
         const words = [fileOf(bytes), ...basis ? ["--basis"] : []];
         assert.equal(misere.describe(bytes, {basis}), printed("describe", ...words));
-        assert.equal(misere.describe(bytes, {basis, output: "latex"}), printed("describe", "--latex", ...words));
+        for (const output of /** @type {const} */ (["latex", "json", "singular", "gap"]))
+          assert.equal(misere.describe(bytes, {basis, output}), printed("describe", `--${output}`, ...words), output);
         const relations = told(() => misere.describe(bytes, {basis, output: "relations"}));
         const line = printed("describe", "--relations", ...words);
         // the program prints those that `present` refuses, too

@@ -7,6 +7,15 @@ import {save} from "../saving.js";
 /** @typedef {import("./present.js").Game} Game */
 /** @typedef {import("../main.js").Page} Page */
 
+/** The forms of a description, and what copies them. */
+const FORMS = {
+  description: "Copy the description",
+  latex: "for LaTeX",
+  json: "as JSON",
+  singular: "for Singular",
+  gap: "for GAP"
+};
+
 /**
  * @param {Page} page
  * @param {Game} game
@@ -22,15 +31,16 @@ export function certificateSection(page, game) {
       fill(said, `Not copied: ${/** @type {Error} */ (failure).message}.`);
     }
   };
-  const described = (/** @type {string} */ output) => async () =>
-      (await page.prover.ask("describe", bytes, {output})).answer;
   const button = (/** @type {string} */ id, /** @type {string} */ name, /** @type {() => void} */ onclick) =>
       make("button", {type: "button", id, onclick}, name);
+  const described = (/** @type {[string, string]} */[output, name]) => {
+    const textOf = async () => (await page.prover.ask("describe", bytes, {output})).answer;
+    return button(`copy-${output}`, name, copying(textOf));
+  };
   const buttons = [
     button("copy", "Copy", copying(async () => text)),
     button("save", "Save", () => save(text, fileNameOf(game))),
-    description && button("copy-description", "Copy the description", copying(described("description"))),
-    description && button("copy-latex", "Copy it for LaTeX", copying(described("latex"))),
+    description && Object.entries(FORMS).map(described),
   ];
   return make(
       "section", {class: "screen"}, make("h2", {}, "The certificate"), make("div", {class: "row"}, buttons, said),

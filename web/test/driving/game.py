@@ -89,7 +89,8 @@ def keeps(it, program, steps):
         it.wait(file.exists)
         it.wait(lambda: file.stat().st_size >= len(wanted))
         steps.expect("the certificate is saved", file.read_text() == wanted, f"{file.name}, {len(wanted)} bytes")
-    for name in ("copy", "copy-description", "copy-latex"):
+    forms = ("description", "latex", "json", "singular", "gap")
+    for name in ("copy", *(f"copy-{form}" for form in forms)):
         it.run("document.querySelector('#copy').parentNode.querySelector('[role=status]').textContent = ''")
         it.one(f"#{name}").click()
         said = it.said(".row [role=status]", "opied", "verdict")
