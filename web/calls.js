@@ -6,9 +6,14 @@
  *     misere.outcome(certificate, [2, 10n ** 12n]);  // 0: lost for the player to move; 1: won
  *
  * Each call checks the certificate anew, and keeps nothing: what misere_open opens would be lost with an instance that
- * failed, so that call and its kin stand in the module and not here. What is thrown as `Refused` is an answer of the
- * library; whatever else is thrown is no verdict.
+ * failed, so that call and its kin stand in the module and not here. Of infinite quotients, whose checks take longer,
+ * the last one that was asked stays open; with an instance that failed it is lost, and opened anew. What is thrown as
+ * `Refused` is an answer of the library; whatever else is thrown is no verdict.
  */
+
+import {Failed, Instance} from "./instance.js";
+
+export {Failed};
 
 // The bounds of the calls, of which each has its one place in JavaScript here (scripts/calls_stand compares them).
 
@@ -76,6 +81,15 @@ const CALLS = {
   misere_solve_why: ["&[u8]", "u32", "u32", "u32", "u32", "u32", "&mut [u8]", "&mut u64"],
   misere_describe: ["&[u8]", "u32", "u32", "u32", "&mut [u8]", "&mut u64"],
 };
+/** Those for infinite quotients, in a module that has them. */
+const INFINITE_CALLS = {
+  misere_check_infinite: ["&[u8]", "u32"],
+  misere_infinite_failure: ["&[u8]", "u32", "&mut [u64]", "&mut u64"],
+  misere_infinite_open: ["&[u8]", "u32", "&mut OpenedInfinite"],
+  misere_infinite_close: ["&mut OpenedInfinite"],
+  misere_infinite_outcomes: ["&mut OpenedInfinite", "&[u64]", "&[u64]", "&mut [u32]"],
+  misere_infinite_answers: ["&mut OpenedInfinite", "&[u64]", "&[u64]", "&mut [MisereAnswer]"],
+};
 /** The fields of a MisereAnswer, each a number of 64 bits. */
 const FIELDS = ["kind", "heap", "first", "second", "third"];
 
@@ -86,7 +100,9 @@ const AIMS = ["whole", "part", "furthest"];
  * @typedef {(number | bigint)[]} Position the sizes of its heaps, 1 to 10^18
  * @typedef {{kind: "ended"} | {kind: "lost"} | {kind: "wins", heap: bigint, left: bigint[]}} Answer whether the game is
  *     over, or every move loses, or which the first winning move is: the heap that it takes, and what it leaves of it
- * @typedef {Uint8Array | Uint32Array | BigUint64Array} Numbers
+ * @typedef {import("./instance.js").Numbers} Numbers
+ * @typedef {{bytes: Uint8Array, limit: number, failures: number, owner: BigUint64Array}} Opened an
+ *     infinite quotient, and how often the instance had failed
  * @typedef {"description" | "latex" | "relations" | "json" | "singular" | "gap"} Output
  * @typedef {object} Search how far a search goes
  * @property {"whole" | "part" | "furthest"} [aim] of all heaps; of the heaps 1 to `heaps`; or of the most first ones
@@ -110,15 +126,6 @@ export class Refused extends Error {
     this.status = status;
     this.heaps = heaps;
     this.why = why;
-  }
-}
-
-/** The module failed, as with a stack that is full: no verdict. */
-export class Failed extends Error {
-  /** @param {unknown} cause */
-  constructor(cause) {
-    super(`the module failed: ${cause instanceof Error ? cause.message : cause}`, {cause});
-    this.name = "Failed";
   }
 }
 
@@ -153,62 +160,29 @@ function answerOf([kind, heap, ...left]) {
   return kind === 1n ? {kind: "lost"} : {kind: "wins", heap, left: left.filter((it) => it)};
 }
 
-/**
- * The places of as many arrays in the module's memory, which hold what these hold; or null where memory is refused.
- * @param {any} exports
- * @param {Numbers[]} arrays
- */
-function placesOf(exports, arrays) {
-  /** @type {bigint[]} */
-  const places = [];
-  for (const array of arrays) {
-    const place = exports.heap_take(BigInt(array.byteLength));
-    if (place === 0n) {
-      places.forEach(exports.heap_give);
-      return null;
-    }
-    places.push(place);
-    bytesAt(exports, place, array).set(new Uint8Array(array.buffer, array.byteOffset, array.byteLength));
-  }
-  return places;
+/** @param {BigUint64Array} told the fields of answers, one after another */
+function answersOf(told) {
+  const size = FIELDS.length;
+  return Array.from({length: told.length / size}, (_, at) => answerOf(told.subarray(size * at, size * (at + 1))));
 }
 
 /**
- * The bytes of an array's place. (The memory is another buffer after each growth.)
- * @param {any} exports
- * @param {bigint} place
- * @param {Numbers} array
+ * @param {Uint8Array} one
+ * @param {Uint8Array} other
  */
-function bytesAt(exports, place, array) {
-  return new Uint8Array(exports.memory.buffer, Number(place), array.byteLength);
-}
-
-/**
- * The words of a call in WebAssembly.
- * @param {string[]} kinds
- * @param {(number | Numbers)[]} words
- * @param {bigint[]} places those of the arrays among the words
- */
-function passed(kinds, words, places) {
-  let next = 0;
-  return kinds.flatMap(/** @returns {(number | bigint)[]} */ (kind, at) => {
-    const word = words[at];
-    if (typeof word === "number") return [word];
-    const place = places[next++];
-    if (!kind.endsWith("]")) return [place];
-    return [place, BigInt(word.length / (kind.includes("MisereAnswer") ? FIELDS.length : 1))];
-  });
+function isSame(one, other) {
+  return one.length === other.length && one.every((byte, at) => byte === other[at]);
 }
 
 /** The calls, over one instance of the module. */
 export class Misere {
-  /** @type {any} */
-  #exports = null;
-  #module;
+  #instance;
+  /** @type {Opened | null} */
+  #opened = null;
 
   /** @param {WebAssembly.Module} module */
   constructor(module) {
-    this.#module = module;
+    this.#instance = new Instance(module, {MisereAnswer: FIELDS.length});
   }
 
   /** The version of the calls. */
@@ -221,7 +195,7 @@ export class Misere {
    * @param {Uint8Array} bytes
    */
   check(bytes, limit = LIMIT) {
-    this.#check(bytes, limit, USUAL_HEAPS);
+    this.#check("misere_failure", bytes, limit);
   }
 
   /**
@@ -257,7 +231,7 @@ export class Misere {
    * @param {Position[]} positions
    */
   outcomes(bytes, positions, limit = LIMIT) {
-    return this.#many("misere_outcomes", bytes, positions, limit, new Uint32Array(positions.length));
+    return this.#many("misere_outcomes", [bytes, bounded(limit)], positions, new Uint32Array(positions.length));
   }
 
   /**
@@ -266,7 +240,7 @@ export class Misere {
    * @param {Position[]} positions
    */
   values(bytes, positions, limit = LIMIT) {
-    return this.#many("misere_values", bytes, positions, limit, new Uint32Array(positions.length));
+    return this.#many("misere_values", [bytes, bounded(limit)], positions, new Uint32Array(positions.length));
   }
 
   /**
@@ -275,9 +249,8 @@ export class Misere {
    * @param {Position[]} positions
    */
   answers(bytes, positions, limit = LIMIT) {
-    const size = FIELDS.length;
-    const told = this.#many("misere_answers", bytes, positions, limit, new BigUint64Array(size * positions.length));
-    return positions.map((_, at) => answerOf(told.subarray(size * at, size * (at + 1))));
+    const told = new BigUint64Array(FIELDS.length * positions.length);
+    return answersOf(this.#many("misere_answers", [bytes, bounded(limit)], positions, told));
   }
 
   /**
@@ -302,9 +275,56 @@ export class Misere {
     return this.#text("misere_solve_why", [new TextEncoder().encode(code), ...bounds], MOST);
   }
 
+  /** Whether the module has the calls for infinite quotients, which the next four need. */
+  knowsInfinite() {
+    return Object.keys(INFINITE_CALLS).every((it) => it in this.#instance.exports);
+  }
+
+  /**
+   * Whether the bytes are an accepted certificate of an infinite quotient: throws the refusal where they aren't.
+   * @param {Uint8Array} bytes
+   */
+  checkInfinite(bytes, limit = LIMIT) {
+    try {
+      this.#open(bytes, limit);
+    } catch (refused) {
+      // (a second check tells the position at which the rule fails)
+      if (refused instanceof Refused && refused.status === OUTCOME)
+        this.#check("misere_infinite_failure", bytes, limit);
+      throw refused;
+    }
+  }
+
+  /**
+   * The outcome of each of many positions, by a certificate of an infinite quotient.
+   * @param {Uint8Array} bytes
+   * @param {Position[]} positions
+   */
+  infiniteOutcomes(bytes, positions, limit = LIMIT) {
+    const told = new Uint32Array(positions.length);
+    return this.#many("misere_infinite_outcomes", [this.#open(bytes, limit)], positions, told);
+  }
+
+  /**
+   * The first winning move in each of many positions, by a certificate of an infinite quotient.
+   * @param {Uint8Array} bytes
+   * @param {Position[]} positions
+   */
+  infiniteAnswers(bytes, positions, limit = LIMIT) {
+    const told = new BigUint64Array(FIELDS.length * positions.length);
+    return answersOf(this.#many("misere_infinite_answers", [this.#open(bytes, limit)], positions, told));
+  }
+
+  /** Gives back the memory of an infinite quotient that is open, if there is one. */
+  close() {
+    const last = this.#kept();
+    this.#opened = null;
+    if (last) this.#call("misere_infinite_close", last.owner);
+  }
+
   /** The bytes of the heap that are taken, that ever were at most, and those of the whole memory. */
   memory() {
-    const {heap_live, heap_peak, memory} = this.#instance();
+    const {heap_live, heap_peak, memory} = this.#instance.exports;
     return {live: Number(heap_live()), peak: Number(heap_peak()), size: memory.buffer.byteLength};
   }
 
@@ -313,53 +333,53 @@ export class Misere {
    * @param {number} place
    */
   bound(place) {
-    this.#instance().heap_most(BigInt(place));
-  }
-
-  /** The exports of the instance: of a new one where the last failed, since that stopped amid its work. */
-  #instance() {
-    return (this.#exports ??= new WebAssembly.Instance(this.#module).exports);
+    this.#instance.exports.heap_most(BigInt(place));
   }
 
   /**
    * A check, and a second one where the position at which the rule fails is longer than the room for it.
+   * @param {"misere_failure" | "misere_infinite_failure"} name
    * @param {Uint8Array} bytes
    * @param {number} limit
    * @param {number} room
    * @returns {void}
    */
-  #check(bytes, limit, room) {
+  #check(name, bytes, limit, room = USUAL_HEAPS) {
     const [told, count] = [new BigUint64Array(room), new BigUint64Array(1)];
-    const status = this.#call("misere_failure", bytes, bounded(limit), told, count);
+    const status = this.#call(name, bytes, bounded(limit), told, count);
     const length = Number(count[0]);
-    if (status === OUTCOME && length > room) return this.#check(bytes, limit, length);
+    if (status === OUTCOME && length > room) return this.#check(name, bytes, limit, length);
     if (status) throw new Refused(status, status === OUTCOME ? [...told.subarray(0, length)] : null);
   }
 
   /**
+   * The owner of the infinite quotient that the bytes certify.
+   * @param {Uint8Array} bytes
+   * @param {number} limit
+   */
+  #open(bytes, limit) {
+    const last = this.#kept();
+    if (last && last.limit === limit && isSame(last.bytes, bytes)) return last.owner;
+    this.close();
+    const owner = new BigUint64Array(2);
+    const status = this.#call("misere_infinite_open", bytes, bounded(limit), owner);
+    if (status) throw new Refused(status);
+    this.#opened = {bytes: bytes.slice(), limit, failures: this.#instance.failures, owner};
+    return owner;
+  }
+
+  /** The infinite quotient that is open. */
+  #kept() {
+    return this.#opened?.failures === this.#instance.failures ? this.#opened : null;
+  }
+
+  /**
    * The status of a call. Behind it the arrays of what it may change hold what it told.
-   * @param {keyof CALLS} name
+   * @param {keyof (CALLS & INFINITE_CALLS)} name
    * @param {(number | Numbers)[]} words
-   * @returns {number}
    */
   #call(name, ...words) {
-    const kinds = CALLS[name];
-    try {
-      const exports = this.#instance();
-      const arrays = words.flatMap((it) => (typeof it === "number" ? [] : [it]));
-      const places = placesOf(exports, arrays);
-      if (!places) return MEMORY;
-      const status = exports[name](...passed(kinds, words, places)) >>> 0;
-      const isTold = kinds.filter((it) => it !== "u32").map((it) => it.startsWith("&mut"));
-      arrays.forEach((array, at) => {
-        if (isTold[at]) new Uint8Array(array.buffer, array.byteOffset).set(bytesAt(exports, places[at], array));
-      });
-      places.forEach(exports.heap_give);
-      return status;
-    } catch (cause) {
-      this.#exports = null;
-      throw new Failed(cause);
-    }
+    return this.#instance.call(name, {...CALLS, ...INFINITE_CALLS}[name], words);
   }
 
   /**
@@ -380,16 +400,15 @@ export class Misere {
   /**
    * What a call tells of many positions, in the array.
    * @template {Numbers} T
-   * @param {keyof CALLS} name
-   * @param {Uint8Array} bytes
+   * @param {keyof (CALLS & INFINITE_CALLS)} name
+   * @param {(number | Numbers)[]} asked a certificate and a limit, or what is opened
    * @param {Position[]} positions
-   * @param {number} limit
    * @param {T} told
    */
-  #many(name, bytes, positions, limit, told) {
+  #many(name, asked, positions, told) {
     let end = 0;
     const ends = positions.map((it) => (end += it.length));
-    const status = this.#call(name, bytes, bounded(limit), heapsOf(positions.flat()), heapsOf(ends), told);
+    const status = this.#call(name, ...asked, heapsOf(positions.flat()), heapsOf(ends), told);
     if (status) throw new Refused(status);
     return told;
   }

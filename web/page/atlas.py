@@ -3,17 +3,20 @@
 
     atlas.py ROOT TO.json [PROGRAM]
 
-ROOT is the project, with its program built, if no other is named: `misere describe` says which quotients are tame, and
-which elements generate. A certificate stands here as its heaps, its portion and the rows of its generators, out of
-which the page makes all of its lines again (certificate_text.js). Nothing is believed of that: the page has each text
-checked.
+ROOT is the project, with its program built, if no other is named: `misere describe` says which quotients are tame. A
+certificate stands here as its heaps, its portion and what multiplication.py leaves of its products, out of which the
+page makes all of its lines again (certificate_text.js). Nothing is believed of that: the page has each text checked.
+
+Beside the entries of the catalogues there are further parts of games without a full one: those of the samples.
 """
 import json
 import pathlib
 import sys
 
 sys.dont_write_bytecode = True
-from isomorphism import classes_of, generators_of
+from infinite import names_of
+from isomorphism import classes_of
+from multiplication import told_of
 
 
 def numbers(words):
@@ -27,39 +30,46 @@ def rows_of(entry):
     return [list(row) for row in certificate_of(entry.certificate).rows]
 
 
-def generators(entry, rows, phi):
-    """The elements whose rows give the whole table: those that the description names, or else some."""
-    named = numbers(entry.generators)
-    return [phi[heap - 1] for heap in named] if named else generators_of(rows)
+def certified(entry):
+    """What the page holds of a certificate, but for its code."""
+    rows, phi = rows_of(entry), numbers(entry.words["phi"])
+    return {
+        "order": entry.order,
+        "start": int(entry.words["start"]),
+        "period": int(entry.words["period"]),
+        "phi": phi,
+        "portion": numbers(entry.words["portion"]),
+        "products": told_of(rows[1 : max(phi) + 1]),
+    }
 
 
 def quotient(group, number, place):
     """What the page holds of a quotient and its codes, each with its place in the atlas."""
-    first = group[0]
-    rows, phi = rows_of(first), numbers(first.words["phi"])
-    return {
-        "order": first.order,
-        "start": int(first.words["start"]),
-        "period": int(first.words["period"]),
-        "phi": phi,
-        "portion": numbers(first.words["portion"]),
-        "generators": [[element, *rows[element]] for element in generators(first, rows, phi)],
-        "kind": first.kind,
-        "class": number,
-        "codes": [[entry.code, place[entry.code]] for entry in group],
-    }
+    codes = [[entry.code, place[entry.code]] for entry in group]
+    return {**certified(group[0]), "kind": group[0].kind, "class": number, "codes": codes}
+
+
+def parts(root, entry_of, entries):
+    """Samples of parts that go further than the catalogues do, where these have no full quotient."""
+    last = {entry.code: entry.heaps for entry in entries}
+    texts = [file.read_text() for file in sorted((root / "certificates").glob("*_heaps_*.mqc"))]
+    found = [entry_of(text) for text in texts]
+    return [{"code": it.code, **certified(it)} for it in found if last.get(it.code) and it.heaps > last[it.code]]
 
 
 def main():
     root, to, *named = map(pathlib.Path, sys.argv[1:])
     sys.path.insert(0, str(root / "scripts"))
-    from atlas_page import Page
+    from atlas_page import Entry, Page
+    from certificate_lines import heaps_of, words_of
 
     page = Page(root, *(named or [root / "crates/misere/out/misere"]))
     place = {entry.code: at for at, entry in enumerate(page.entries)}
     classes = classes_of([(rows_of(group[0]), numbers(group[0].words["portion"])) for group in page.groups])
     quotients = [quotient(group, number, place) for group, number in zip(page.groups, classes)]
-    to.write_text(json.dumps(quotients, separators=(",", ":")))
+    entry_of = lambda text: Entry({"code": words_of(text)["code"], "heaps": heaps_of(text), "certificate": text})
+    held = {"quotients": quotients, "parts": parts(root, entry_of, page.entries), "infinite": names_of(root)}
+    to.write_text(json.dumps(held, separators=(",", ":")))
     told = f"{len(place)} games, {len(quotients)} quotients, {len(set(classes))} bipartite monoids up to isomorphism"
     print(f"atlas.py: {told}", file=sys.stderr)
 

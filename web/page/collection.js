@@ -2,6 +2,8 @@
 // (Each is checked when it is used.)
 
 import {fieldsOf, nameOf} from "./certificate.js";
+import {infiniteName, infiniteOf, isInfinite} from "./infinite/fields.js";
+import {heldText} from "./infinite/held.js";
 
 /** Behind this the session's storage keeps a certificate under its name. */
 const PREFIX = "misere ";
@@ -10,18 +12,27 @@ export class Collection {
   /** @type {Map<string, string>} */
   #own = new Map();
 
-  /** @param {import("./atlas.js").Atlas} atlas */
-  constructor(atlas) {
+  /** @type {Promise<import("./infinite/held.js").Told> | null} */
+  #infinite = null;
+  #unpack;
+
+  /**
+   * @param {import("./atlas.js").Atlas} atlas
+   * @param {() => Promise<import("./infinite/held.js").Told>} unpack the certificates of infinite quotients
+   */
+  constructor(atlas, unpack) {
     this.atlas = atlas;
+    this.#unpack = unpack;
   }
 
   /**
-   * The certificate of a name: a code, or a code and the last heap of a partial one, such as `0.75/8`.
+   * The certificate of a name: a code; a code and the last heap of a part, such as `0.75/8`; or one of an infinite
+   * quotient, such as `0.07/34-33` for the heaps 1 to 34 without 33.
    * @param {string} name
-   * @returns {string | null}
+   * @returns {Promise<string | null>}
    */
-  find(name) {
-    return this.#own.get(name) ?? stored(name) ?? this.#ofAtlas(name);
+  async find(name) {
+    return this.#own.get(name) ?? stored(name) ?? this.#ofAtlas(name) ?? this.#infiniteOne(name);
   }
 
   /**
@@ -29,9 +40,10 @@ export class Collection {
    * @param {string} text
    */
   keep(text) {
-    const certificate = fieldsOf(text);
-    if (this.#ofAtlas(certificate.code) === text) return certificate.code;
-    const name = nameOf(certificate);
+    const name = isInfinite(text) ? infiniteName(infiniteOf(text)) : nameOf(fieldsOf(text));
+    const [code] = name.split("/");
+    for (const known of [code, name])
+      if (this.#ofAtlas(known) === text) return known;
     this.#own.set(name, text);
     store(name, text);
     return name;
@@ -40,8 +52,15 @@ export class Collection {
   /** @param {string} name */
   #ofAtlas(name) {
     const [code, last] = name.split("/");
-    const entry = this.atlas.byCode.get(code);
-    return entry && (!last || Number(last) === entry.last) ? this.atlas.text(code) : null;
+    return this.atlas.text(code, last ? Number(last) : null);
+  }
+
+  /** @param {string} name */
+  async #infiniteOne(name) {
+    const [code, part] = name.split("/");
+    if (!this.atlas.infinite.get(code)?.includes(part)) return null;
+    this.#infinite ??= this.#unpack();
+    return heldText(await this.#infinite, code, part);
   }
 }
 

@@ -50,6 +50,14 @@ async function unpacked(id) {
   return new Response(new Blob([bytes]).stream().pipeThrough(new DecompressionStream("gzip"))).arrayBuffer();
 }
 
+/**
+ * What the page holds in an element as JSON.
+ * @param {string} id
+ */
+async function heldOf(id) {
+  return JSON.parse(new TextDecoder().decode(await unpacked(id)));
+}
+
 /** @param {string} id */
 function heldText(id) {
   return document.getElementById(id)?.textContent ?? "";
@@ -74,11 +82,17 @@ async function show(page) {
   page.finder.stop();
   try {
     const shown = (VIEWS[view] ?? atlasView)(page, root, word);
-    document.title = `${root.querySelector("h1")?.textContent} – Misère quotients`;
+    document.title = titleOf(root);
     await shown;
+    if (root.isConnected) document.title = titleOf(root);
   } catch (failure) {
     root.append(alertOf(failure));
   }
+}
+
+/** @param {HTMLElement} root */
+function titleOf(root) {
+  return `${root.querySelector("h1")?.textContent} – Misère quotients`;
 }
 
 /** Makes a worker out of the program that the page holds. (One of `file://` may not read it from a file.) */
@@ -96,11 +110,11 @@ function isAble() {
 
 async function begin() {
   if (!isAble()) return document.getElementById("old")?.classList.add("shown");
-  const [module, quotients] = await Promise.all([unpacked("module"), unpacked("atlas")]);
-  const atlas = new Atlas(JSON.parse(new TextDecoder().decode(quotients)));
+  const [module, held] = await Promise.all([unpacked("module"), heldOf("atlas")]);
+  const atlas = new Atlas(held);
   const [prover, finder] = [1, 2].map(() => new Prover(makeWorker, module));
   prover.begin();
-  const page = {atlas, collection: new Collection(atlas), prover, finder, module};
+  const page = {atlas, collection: new Collection(atlas, () => heldOf("infinite")), prover, finder, module};
   keepScrolling();
   isKnownEntry();
   window.addEventListener("hashchange", async () => {

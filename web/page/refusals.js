@@ -14,16 +14,21 @@ const REASONS = {
   5: "a smaller period serves, or the period serves from an earlier start",
   6: "a separating element is not the least one",
   7: "the rule of the code’s game fails at this position",
-  8: `more different transition pairs than the limit of ${LIMIT}`,
+  8: `more than the limit of ${LIMIT} different transition pairs, or of what a check with tracks takes`,
   9: "memory was refused, so there is no verdict",
   10: "a heap is not of 1 to 10^18",
   12: "the text is no code",
   13: "no certificate was found within these bounds",
   15: "a bound of the search is out of its range",
   16: "the quotient is not described within the bounds",
-  23: "the certificate is partial, and does not speak of all these heaps",
+  23: "the certificate does not speak of all these heaps",
+  31: "an option of a heap has a heap of which the certificate does not speak",
+  32: "an element is P at a place where no position with it is",
+  33: "the rule was not seen to hold, and no position was found at which it fails; nothing is proved",
+  34: "the claim is right, but its three positions do not show that the quotient is infinite",
 };
-const MEMORY = 9;
+/** The refusals that say nothing of the certificate. */
+const NO_VERDICTS = [9, 33];
 
 /** @type {[RegExp, string][]} */
 const SEARCHES = [
@@ -51,7 +56,7 @@ export function reasonOf(why) {
  * @param {unknown} failure
  */
 export function isNo(failure) {
-  return failure instanceof Failure && failure.kind === "refused" && failure.status !== MEMORY;
+  return failure instanceof Failure && failure.kind === "refused" && !NO_VERDICTS.includes(failure.status ?? 0);
 }
 
 /**

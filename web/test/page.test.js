@@ -14,21 +14,48 @@ import {csvOf, jsonOf, listedOf} from "../page/atlas/listing.js";
 import {fieldsOf, lastHeap, nameOf, verdictOf} from "../page/certificate.js";
 import {certificateText} from "../page/certificate_text.js";
 import {codeOfName, GAME_NAMES, isCode} from "../page/codes.js";
+import {Collection} from "../page/collection.js";
 import {describedOf} from "../page/description.js";
 import {AIMS, soughtOf, soughtWord} from "../page/find/plan.js";
+import {memberOf, writtenOf} from "../page/infinite/family.js";
+import {infiniteName, infiniteOf, infiniteVerdict, isInfinite, speaksOf} from "../page/infinite/fields.js";
+import {readingOf} from "../page/play/reading.js";
 import {heapsOfText} from "../page/positions.js";
 import {reasonOf} from "../page/refusals.js";
 import {TERMS} from "../page/terms.js";
 
-import {atlas, printed, root, sample} from "./setup.js";
+import {atlas, infinite, printed, root, sample} from "./setup.js";
 
-const held = process.env.MISERE_ATLAS ?? path.join(root, "web/out/atlas.json");
-const made = new Atlas(JSON.parse(readFileSync(held, "utf8")));
+const folder = process.env.MISERE_HELD ?? path.join(root, "web/out");
+const heldIn = (/** @type {string} */ name) => JSON.parse(readFileSync(path.join(folder, name), "utf8"));
+const made = new Atlas(heldIn("atlas.json"));
+const heldInfinite = heldIn("infinite.json");
 
 test("the texts that the page makes again are those of the catalogues", () => {
   assert.equal(made.entries.length, atlas.length);
   for (const {code, bytes} of atlas) assert.equal(made.text(code), new TextDecoder().decode(bytes), code);
 });
+
+/**
+ * What is told of the sums modulo the order, where as many first elements are those of heaps.
+ * @param {number} order
+ * @param {number} firsts
+ */
+function toldOf(order, firsts) {
+  /** @type {number[]} */
+  const told = [];
+  for (let x = 1, next = firsts + 1; x < order; x++) {
+    for (let g = 1; g <= firsts; g++) {
+      // (of other elements than those of heaps the key ends in the largest of these)
+      const isKnown = x <= firsts ? g < x : g < firsts;
+      if (isKnown) continue;
+      const sum = (x + g) % order;
+      told.push(sum === next ? 0 : sum + 1);
+      if (sum === next) next++;
+    }
+  }
+  return told;
+}
 
 /**
  * What a page would hold of the powers of one element, with a heap for each.
@@ -37,17 +64,13 @@ test("the texts that the page makes again are those of the catalogues", () => {
  */
 function powers(order, heaps) {
   const phi = Array.from({length: heaps}, (_, at) => (at + 1) % order);
-  const row = Array.from({length: order}, (_, x) => (x + 1) % order);
   return {
     order,
     start: heaps,
     period: 1,
     phi,
     portion: [1],
-    generators: [[1, ...row]],
-    kind: "wild",
-    class: 0,
-    codes: []
+    products: toldOf(order, Math.max(...phi)),
   };
 }
 
@@ -113,6 +136,7 @@ const CHOICES = [
   ["periods", "period=1-19", ({last, quotient}) => last === null && quotient.period < 20],
   ["a tame index", "tame=2", ({tame}) => tame === 2],
   ["tame indices", "tame=0-1", ({tame}) => tame !== null && tame <= 1],
+  ["no finite quotient", "speaks=infinite", ({code}) => infinite.some(({name}) => name.startsWith(`${code}_`))],
   ["orders", "order=20-36", ({order}) => order >= 20 && order <= 36],
 ];
 
@@ -131,7 +155,7 @@ test("games are chosen by what the fields say", async (t) => {
 const fieldsOfLine = (/** @type {string} */ line) => line.split(",");
 
 test("what is listed is saved, as CSV and as JSON", () => {
-  const names = ["code", "name", "order", "portion", "start", "period", "last_heap", "tame", "same"];
+  const names = ["code", "name", "order", "portion", "start", "period", "last_heap", "tame", "infinite_to", "same"];
   for (const word of ["", "code=0.0", "each=quotient&kind=wild", "each=monoid", "code=none"]) {
     const rows = listed(word), data = listedOf(rows);
     assert.deepEqual(JSON.parse(jsonOf(data)), data);
@@ -156,9 +180,11 @@ test("a row is told by its numbers", () => {
     period: 12,
     last_heap: null,
     tame: null,
+    infinite_to: null,
   });
-  const {start, period, last_heap} = listedOf(listed("code=0.07"))[0];
-  assert.deepEqual({start, period, last_heap}, {start: null, period: null, last_heap: 24});
+  const {start, period, last_heap, infinite_to} = listedOf(listed("code=0.07"))[0];
+  assert.deepEqual(
+      {start, period, last_heap, infinite_to}, {start: null, period: null, last_heap: 24, infinite_to: 34});
 });
 
 test("a name is that of a code", () => {
@@ -174,6 +200,51 @@ test("an address of a search says what is sought", () => {
     assert.equal(soughtWord(soughtOf(word)), word);
   assert.deepEqual(soughtOf("Kayles:deep"), {code: "0.77", aim: "deep", number: 0});
   assert.deepEqual(AIMS.partial.steps(33).at(-1)?.search, {aim: "part", heaps: 33, order: 4096});
+});
+
+test("the texts of infinite quotients that the page makes again are those of the atlas", async () => {
+  const page = new Collection(made, async () => heldInfinite);
+  for (const {name, bytes} of infinite) {
+    const text = bytes.toString(), certificate = infiniteOf(text);
+    assert.equal(await page.find(infiniteName(certificate)), text, name);
+    assert.equal(`${infiniteName(certificate).replace("/", "_heaps_").replace("-", "_without_")}.mqi`, name);
+    assert.deepEqual([isInfinite(text), isInfinite(bytes)], [true, true]);
+    assert.match(writtenOf(memberOf(certificate, 2, 3)), /^[0-9·+ ]+$/);
+    assert.ok(speaksOf(certificate, memberOf(certificate, 2, 3)));
+  }
+  assert.equal(await page.find("0.07/35"), null);
+});
+
+test("a part of a code is found by its last heap", async () => {
+  const page = new Collection(made, async () => heldInfinite);
+  const [furthest, first] = [await page.find("0.07/33"), await page.find("0.07/24")];
+  assert.equal(furthest, sample("0.07_heaps_33").toString());
+  assert.equal(first, await page.find("0.07"));
+  assert.equal(page.keep(furthest ?? ""), "0.07/33");
+  assert.equal(page.keep(first ?? ""), "0.07");
+  assert.deepEqual(made.partsOf("0.07").map(({name}) => name), ["0.07/24", "0.07/33"]);
+  assert.deepEqual(made.partsOf("0.77"), []);
+  for (const name of ["0.07/25", "0.77/5", "0.123456"]) assert.equal(await page.find(name), null);
+});
+
+test("a certificate of an infinite quotient is read", () => {
+  const {text, ...said} = infiniteOf(sample("0.07_heaps_34_without_33.mqi").toString());
+  assert.deepEqual(said, {
+    code: "0.07",
+    last: 34,
+    leftOut: [33],
+    order: 664,
+    tracks: 1,
+    base: [25, 30, 34, 34, 34],
+    up: [30],
+    down: [34],
+  });
+  const it = {text, ...said};
+  assert.equal(infiniteVerdict(it), "infinite 0.07 heaps 34 without 33");
+  assert.equal(writtenOf(memberOf(it, 2, 1)), "25 + 3·30 + 4·34");
+  assert.deepEqual([[34], [33], [35], []].map((heaps) => speaksOf(it, heaps)), [true, false, false, true]);
+  assert.deepEqual(readingOf(text).usual, [25, 30, 30, 34, 34, 34, 34]);
+  assert.equal(readingOf(sample("0.75_heaps_8").toString()).reach, "heaps up to 8");
 });
 
 test("a position is a list of heaps", () => {

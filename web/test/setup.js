@@ -42,7 +42,8 @@ export const samples = ["certificates", "certificates/refused"].flatMap((it) => 
 });
 
 /** The bytes of a sample. */
-export const sample = (/** @type {string} */ name) => readFileSync(path.join(root, `certificates/${name}.mqc`));
+export const sample = (/** @type {string} */ name) =>
+    readFileSync(path.join(root, "certificates", name.endsWith(".mqi") ? name : `${name}.mqc`));
 
 /** All entries of both catalogues of the atlas. */
 export const atlas = ["octal", "hexadecimal"].flatMap((name) => {
@@ -52,6 +53,14 @@ export const atlas = ["octal", "hexadecimal"].flatMap((name) => {
     return {code, bytes: new TextEncoder().encode(certificate), last: heaps || null};
   });
 });
+
+/** The certificates of infinite quotients: of the atlas, and the samples that are refused. */
+const infiniteIn = (/** @type {string} */ place) =>
+    readdirSync(path.join(root, place))
+        .filter((name) => name.endsWith(".mqi"))
+        .map((name) => ({name, bytes: readFileSync(path.join(root, place, name))}));
+export const infinite = infiniteIn("atlas/infinite");
+export const refusedInfinite = infiniteIn("certificates/refused");
 
 /**
  * Numbers that look random and are the same in each run (xorshift, of 32 bits).

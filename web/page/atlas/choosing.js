@@ -9,7 +9,7 @@ import {isNamed} from "../codes.js";
 /**
  * @typedef {object} Chosen
  * @property {string} code what the code has in it, or how it begins; or a part of a name
- * @property {string} speaks `full`, `partial`, or the empty text for both
+ * @property {string} speaks `full`, `partial`, `infinite` for games without a finite one, or the empty text
  * @property {string} kind `tame`, `wild`, or the empty text for both
  * @property {string} order a number, or two such as `6-12`
  * @property {string} portion the same
@@ -96,7 +96,9 @@ export function rowsOf(atlas, chosen) {
  */
 function isSought(entry, {code, speaks, kind, order, portion, period, tame}) {
   const isFull = entry.last === null, isTame = entry.tame !== null;
-  return isMeant(entry.code, code.trim()) && (!speaks || (speaks === "full") === isFull) &&
+  const isInfinite = entry.infinite !== null;
+  return isMeant(entry.code, code.trim()) &&
+      (!speaks || (speaks === "infinite" ? isInfinite : (speaks === "full") === isFull)) &&
       (!kind || (kind === "tame") === isTame) && isWithin(entry.order, order) && isWithin(entry.portion, portion) &&
       isWithin(isFull ? entry.quotient.period : null, period) && isWithin(entry.tame, tame);
 }

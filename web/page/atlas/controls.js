@@ -23,7 +23,10 @@ export function controls(chosen, choose) {
   return make(
       "form", {class: "row", role: "search", onsubmit: (/** @type {Event} */ event) => event.preventDefault()},
       labelled("Code or name", written("code", {size: 9, placeholder: "0.7, Kayles"})),
-      labelled("Quotient", picked("speaks", [["", "full or partial"], ["full", "full"], ["partial", "partial"]])),
+      labelled(
+          "Quotient",
+          picked(
+              "speaks", [["", "full or partial"], ["full", "full"], ["partial", "partial"], ["infinite", "infinite"]])),
       labelled("Kind", picked("kind", [["", "tame or wild"], ["tame", "tame"], ["wild", "wild"]])),
       labelled("Order", written("order", {size: 7, placeholder: "8 or 6-20"})),
       labelled("Portion", written("portion", {size: 7, placeholder: "2 or 1-5"})),

@@ -14,6 +14,7 @@ import {GAME_NAMES} from "../codes.js";
  * @property {number | null} period
  * @property {number | null} last_heap the last heap of a partial quotient, else null
  * @property {number | null} tame the n of T_n, or null of a wild quotient
+ * @property {number | null} infinite_to the least last heap to which a certificate says that the quotient is infinite
  * @property {string[]} same the other codes of the row
  */
 
@@ -22,7 +23,7 @@ import {GAME_NAMES} from "../codes.js";
  * @returns {Listed[]}
  */
 export function listedOf(groups) {
-  return groups.map(([{code, order, portion, last, tame, quotient: {start, period}}, ...others]) => ({
+  return groups.map(([{code, order, portion, last, tame, infinite, quotient: {start, period}}, ...others]) => ({
                       code,
                       name: GAME_NAMES.get(code) ?? "",
                       order,
@@ -31,6 +32,7 @@ export function listedOf(groups) {
                       period: last === null ? period : null,
                       last_heap: last,
                       tame,
+                      infinite_to: infinite,
                       same: others.map((it) => it.code),
                     }));
 }
@@ -40,7 +42,7 @@ export function listedOf(groups) {
  * @param {Listed[]} rows
  */
 export function csvOf(rows) {
-  const names = ["code", "name", "order", "portion", "start", "period", "last_heap", "tame", "same"];
+  const names = ["code", "name", "order", "portion", "start", "period", "last_heap", "tame", "infinite_to", "same"];
   const lines = rows.map((row) => Object.values({...row, same: row.same.join(" ")}).map(fieldOf).join(","));
   return [names.join(","), ...lines, ""].join("\r\n");
 }

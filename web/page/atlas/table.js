@@ -29,6 +29,7 @@ const DETAILS = [
 ];
 /** @type {Column[]} */
 const COUNTS = [
+  {name: "Infinite", kind: "wide", cell: infiniteOf},
   {name: "Same quotient", kind: "wide", cell: ({quotient}) => othersOf(quotient.codes)},
   {name: "Same monoid", kind: "wide", cell: ({quotient}, atlas) => othersOf(atlas.classes.get(quotient.class) ?? [])},
 ];
@@ -63,6 +64,15 @@ function spacedLink({code}) {
 /** @param {Entry} entry */
 function periodOf({last, quotient: {period, start}}) {
   return last === null ? `${period} from ${start}` : `heaps to ${last}`;
+}
+
+/**
+ * @param {Entry} entry
+ * @param {Atlas} atlas
+ */
+function infiniteOf({code, infinite}, atlas) {
+  const [first] = atlas.infinite.get(code) ?? [];
+  return first && make("a", {href: gameAddress(`${code}/${first}`)}, `to heap ${infinite}`);
 }
 
 /** @param {unknown[]} all */

@@ -18,6 +18,17 @@ import {told} from "../refusals.js";
 export function askSection(page, game) {
   const last = lastHeap(game.certificate);
   const usual = last === null ? "2 1000000000000" : [2, 3, 5].map((heap) => Math.min(heap, last)).join(" ");
+  const label = last === null ? "Heaps, of any size" : `Heaps, up to ${last}`;
+  return askForm(label, usual, (heaps) => saidOf(page, game, heaps));
+}
+
+/**
+ * A field for a position, and what is answered of it.
+ * @param {string} label
+ * @param {string} usual the position that stands there at first
+ * @param {(heaps: bigint[]) => Promise<import("../dom.js").Child[]>} saidOf
+ */
+export function askForm(label, usual, saidOf) {
   const field = make("input", {id: "heaps", value: usual, autocomplete: "off", inputmode: "text"});
   const answer = make("p", {class: "verdict", role: "status", id: "answer"});
   const ask = async () => {
@@ -25,7 +36,7 @@ export function askSection(page, game) {
     answer.className = `verdict ${heaps ? "" : "none"}`;
     if (!heaps) return fill(answer, "A position is a list of heaps of 1 to 10^18, such as 2 5 7.");
     try {
-      fill(answer, ...(await saidOf(page, game, heaps)));
+      fill(answer, ...(await saidOf(heaps)));
     } catch (failure) {
       answer.classList.add("none");
       fill(answer, told(failure));
@@ -35,9 +46,7 @@ export function askSection(page, game) {
     event.preventDefault();
     return ask();
   };
-  const form = make(
-      "form", {class: "row", onsubmit}, labelled(last === null ? "Heaps, of any size" : `Heaps, up to ${last}`, field),
-      make("button", {}, "Who wins?"));
+  const form = make("form", {class: "row", onsubmit}, labelled(label, field), make("button", {}, "Who wins?"));
   // (what stands in the field is asked at once, so that an answer stands under it)
   ask();
   return make("section", {class: "screen"}, make("h2", {}, "Ask it"), form, answer);
@@ -61,8 +70,8 @@ async function saidOf(page, {name, bytes, words}, heaps) {
   ];
 }
 
-/** @param {{kind: string, heap: bigint, left: bigint[]}} answer */
-function outcomeOf(answer) {
+/** @param {import("../../calls.js").Answer} answer */
+export function outcomeOf(answer) {
   if (answer.kind === "ended") return "N: no move is left, so the player to move wins.";
   return answer.kind === "lost" ? "P: lost for the player to move." : `N: won by ${arrowOf(answer)}.`;
 }

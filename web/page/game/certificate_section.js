@@ -20,8 +20,33 @@ const FORMS = {
  * @param {Page} page
  * @param {Game} game
  */
-export function certificateSection(page, game) {
-  const {bytes, certificate: {text}, description} = game;
+export function certificateSection(page, {bytes, certificate, description}) {
+  const described = (/** @type {string} */ output) => async () =>
+      (await page.prover.ask("describe", bytes, {output})).answer;
+  /** @type {Form[]} */
+  const forms = Object.entries(description ? FORMS : {}).map(([output, name]) => [output, name, described(output)]);
+  const last = lastHeap(certificate);
+  const file = `${certificate.code}${last === null ? "" : `_heaps_${last}`}.mqc`;
+  return keptSection(certificate.text, file, forms);
+}
+
+/** @param {import("../infinite/fields.js").Infinite} certificate */
+export function certificateOf({text, code, last, leftOut}) {
+  const without = leftOut.length ? `_without_${leftOut.join("_")}` : "";
+  return keptSection(text, `${code}_heaps_${last}${without}.mqi`, []);
+}
+
+/**
+ * @typedef {[string, string, () => Promise<string>]} Form what else is copied: its name, that of its button, and the
+ *     text
+ */
+
+/**
+ * @param {string} text the certificate
+ * @param {string} file how its file is called
+ * @param {Form[]} forms
+ */
+function keptSection(text, file, forms) {
   const said = make("span", {role: "status", class: "soft"});
   const copying = (/** @type {() => Promise<string>} */ textOf) => async () => {
     try {
@@ -33,26 +58,16 @@ export function certificateSection(page, game) {
   };
   const button = (/** @type {string} */ id, /** @type {string} */ name, /** @type {() => void} */ onclick) =>
       make("button", {type: "button", id, onclick}, name);
-  const described = (/** @type {[string, string]} */[output, name]) => {
-    const textOf = async () => (await page.prover.ask("describe", bytes, {output})).answer;
-    return button(`copy-${output}`, name, copying(textOf));
-  };
   const buttons = [
     button("copy", "Copy", copying(async () => text)),
-    button("save", "Save", () => save(text, fileNameOf(game))),
-    description && Object.entries(FORMS).map(described),
+    button("save", "Save", () => save(text, file)),
+    forms.map(([output, name, textOf]) => button(`copy-${output}`, name, copying(textOf))),
   ];
   return make(
       "section", {class: "screen"}, make("h2", {}, "The certificate"), make("div", {class: "row"}, buttons, said),
       make(
           "details", {}, make("summary", {}, `${text.length} bytes`),
           make("textarea", {readonly: true, "aria-label": "The certificate"}, text)));
-}
-
-/** @param {Game} game */
-function fileNameOf({certificate}) {
-  const last = lastHeap(certificate);
-  return `${certificate.code}${last === null ? "" : `_heaps_${last}`}.mqc`;
 }
 
 /**

@@ -4,6 +4,8 @@ import {playAddress} from "../address.js";
 import {fieldsOf, lastHeap, verdictOf} from "../certificate.js";
 import {describedOf} from "../description.js";
 import {fill, make} from "../dom.js";
+import {isInfinite} from "../infinite/fields.js";
+import {presentInfinite} from "../infinite/present.js";
 import {wordsOf} from "../monoid.js";
 import {Failure} from "../prover.js";
 import {alertOf, isNo, told} from "../refusals.js";
@@ -11,6 +13,7 @@ import {alertOf, isNo, told} from "../refusals.js";
 import {askSection} from "./ask.js";
 import {certificateSection} from "./certificate_section.js";
 import {heapSection} from "./heaps.js";
+import {partsSection} from "./parts.js";
 import {pictureSection} from "./picture_section.js";
 import {quotientSection, ruleSection} from "./quotient.js";
 import {relativesSection} from "./relatives.js";
@@ -37,6 +40,7 @@ const NOT_DESCRIBED = 16;
  * @param {Uint8Array} bytes
  */
 export async function present(page, root, bytes) {
+  if (isInfinite(bytes)) return presentInfinite(page, root, bytes);
   const verdict = make("p", {class: "verdict", id: "verdict", role: "status"}, "Checking …");
   fill(root, verdict);
   try {
@@ -115,11 +119,12 @@ function sectionsOf(page, game) {
   return [
     partial,
     make("p", {class: "links"}, make("a", {href: playAddress(game.name, start)}, "Play against it")),
-    ruleSection(game),
+    ruleSection(game.certificate.code),
     quotientSection(game),
     heapSection(game),
     askSection(page, game),
     pictureSection(page, game),
+    partsSection(page, game.certificate),
     relativesSection(page, game) ?? "",
     certificateSection(page, game),
   ];

@@ -9,8 +9,8 @@ import {explained} from "../terms.js";
 /** @typedef {import("./present.js").Game} Game */
 /** @typedef {import("../description.js").Description} Description */
 
-/** @param {Game} game */
-export function ruleSection({certificate: {code}}) {
+/** @param {string} code */
+export function ruleSection(code) {
   const rule = ruleOf(code).map((it) => make("li", {}, it));
   return make(
       "section", {}, make("h2", {}, "The rule"), make("ul", {class: "rule"}, rule),

@@ -10,7 +10,7 @@ import {chosenWith, heapRow} from "./heap_row.js";
 import {chosenButton, otherMoves} from "./move_form.js";
 import {review} from "./review.js";
 
-/** @typedef {import("../main.js").Page} Page */
+/** @typedef {import("../oracle.js").Oracle} Oracle */
 /** @typedef {import("./session.js").Session} Session */
 /** @typedef {import("../codes.js").Move} Move */
 
@@ -31,14 +31,12 @@ export class Board {
   #isReplying = false;
 
   /**
-   * @param {Page} page
    * @param {HTMLElement} root
-   * @param {Uint8Array} bytes the certificate
+   * @param {Oracle} oracle
    * @param {Session} session
    */
-  constructor(page, root, bytes, session) {
-    this.page = page;
-    this.bytes = bytes;
+  constructor(root, oracle, session) {
+    this.oracle = oracle;
     this.session = session;
     const game = make("a", {href: gameAddress(session.name)}, session.name);
     const rule = make("p", {class: "soft", id: "rule"}, game, `: ${ruleOf(session.code).join(" ")}`);
@@ -69,7 +67,7 @@ export class Board {
     this.#chosen = null;
     this.#win = await this.#winOf();
     this.#show();
-    fill(this.#review, this.session.turns.length > 0 && review(this.page, this.bytes, this.session));
+    fill(this.#review, this.session.turns.length > 0 && review(this.oracle, this.session));
   }
 
   /**
@@ -88,7 +86,7 @@ export class Board {
 
   /** @returns {Promise<Win>} */
   async #winOf() {
-    const {answer} = await this.page.prover.ask("answer", this.bytes, this.session.heaps);
+    const answer = await this.oracle.answer(this.session.heaps);
     return answer.kind === "wins" ? {heap: Number(answer.heap), left: answer.left.map(Number)} : null;
   }
 

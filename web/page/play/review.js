@@ -13,19 +13,18 @@ const NAMES = {
 };
 
 /**
- * @param {import("../main.js").Page} page
- * @param {Uint8Array} bytes
+ * @param {import("../oracle.js").Oracle} oracle
  * @param {Session} session
  */
-export function review(page, bytes, session) {
+export function review(oracle, session) {
   const place = make("div", {class: "scroll"});
   const details = make(
       "details", {class: "review", id: "review"}, make("summary", {}, "Review, with the outcome of each position"),
       place);
   const show = async () => {
     try {
-      const {answer} = await page.prover.ask("outcomes", bytes, session.positions);
-      fill(place, tableOf(session, [...answer].map((outcome) => outcome === 0)));
+      const outcomes = await oracle.outcomes(session.positions);
+      fill(place, tableOf(session, [...outcomes].map((outcome) => outcome === 0)));
     } catch (failure) {
       fill(place, alertOf(failure));
     }

@@ -12,7 +12,9 @@ const PROVED = [
   "Where the checker says yes to a full certificate, its portion predicts the misère outcome of every position of " +
       "the game, of any number of heaps of any size, and its monoid is the misère quotient. There is no premise.",
   "Of a partial one it says so of the positions whose heaps are at most its last one.",
-  "A no is true of the bytes: the fault that is named is there.",
+  "Where it says infinite to a certificate with tracks, this tells who wins each position of the heaps of which it " +
+      "speaks, and their misère quotient is infinite: neither they nor the whole game have a finite one.",
+  "A no is true of the bytes: the fault that is named is there. (8, 9, 33 and 34 say no more than that no yes came.)",
   "The relations, words, units, idempotents and kernel of a description are those of the certified quotient. The " +
       "outcome of a position, its element and its first winning move are true.",
   "What the finder hands out is accepted by the checker. If it finds nothing, nothing is proved.",
@@ -27,7 +29,8 @@ const TRUSTED = [
       "addresses 32 bits wide.",
   "Your browser, and how the page passes bytes to the module and back.",
   "What the page draws. Its rules in words, its moves, its words for elements beyond those of a description, its " +
-      "components and its pictures are its own reading of a certificate.",
+      "components and its pictures are its own reading of a certificate. So are the heaps, base, up and down of one " +
+      "of an infinite quotient, and the positions of its family; their outcomes are the module’s.",
   "Which quotients are isomorphic, and which are tame in the list of the atlas: both were worked out when the page " +
       "was made. (A game’s page works out again whether it is tame.)",
 ];
@@ -39,7 +42,8 @@ const TRUSTED = [
 export async function aboutView({atlas, module}, root) {
   const list = (/** @type {string[]} */ items) => make("ul", {}, items.map((it) => make("li", {}, it)));
   const sum = make("code", {class: "sum"}, "…");
-  const checked = `The page holds the certificates of ${atlas.entries.length} small games. What it says of a game is ` +
+  const checked = `The page holds the certificates of ${atlas.entries.length} small games, and of ` +
+      `${atlas.infinite.size} of them certificates that they have no finite quotient. What it says of a game is ` +
       "checked here by the proved checker, compiled for the browser. Nothing is asked of a server and nothing is sent.";
   const version = document.querySelector("meta[name=version]")?.getAttribute("content");
   const bytes = module.byteLength.toLocaleString("en");

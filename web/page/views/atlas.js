@@ -13,7 +13,7 @@ import {glossary} from "../terms.js";
 
 /** So many rows are shown at once, and the others right behind them. */
 const FIRST_ROWS = 60;
-const WORDS = ["Order", "Portion", "Period", "Kind", "Same quotient", "Same monoid"];
+const WORDS = ["Order", "Portion", "Period", "Kind", "No finite quotient", "Same quotient", "Same monoid"];
 
 /**
  * @param {import("../main.js").Page} page

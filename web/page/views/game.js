@@ -12,12 +12,12 @@ import {present} from "../game/present.js";
 export async function gameView(page, root, named) {
   const [said, last] = named.split("/");
   const code = codeOfName(said), name = last ? `${code}/${last}` : code;
-  const text = page.collection.find(name);
-  if (!text) return fill(root, make("h1", {}, name || "Which game?"), unknown(code, last));
   const known = GAME_NAMES.get(code);
+  const heading = `The game ${code}${last ? `, to heap ${last.replace("-", " without ")}` : ""}`;
   const body = make("div");
-  const heading = `The game ${code}${last ? `, to heap ${last}` : ""}`;
   fill(root, make("h1", {}, heading, known && make("span", {class: "soft"}, ` ${known}`)), body);
+  const text = await page.collection.find(name);
+  if (!text) return fill(root, make("h1", {}, name || "Which game?"), unknown(code, last));
   await present(page, body, new TextEncoder().encode(text));
 }
 

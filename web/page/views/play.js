@@ -1,16 +1,19 @@
 // A play against the program, of any game with a certificate here.
 
 import {playAddress, playOf} from "../address.js";
-import {fieldsOf, lastHeap} from "../certificate.js";
 import {choice, fill, labelled, make} from "../dom.js";
+import {Oracle} from "../oracle.js";
 import {Board} from "../play/board.js";
 import {LARGEST_HEAP_PLAYED, MOST_HEAPS_PLAYED} from "../play/bounds.js";
+import {readingOf, USUAL_HEAPS} from "../play/reading.js";
 import {Session} from "../play/session.js";
 import {heapsOfText} from "../positions.js";
 
 /** @typedef {import("../main.js").Page} Page */
 
-const [USUAL_NAME, USUAL_HEAPS] = ["0.77", "3,4,5"];
+const USUAL_NAME = "0.77";
+const LARGEST_DEALT = 12;
+const UNABLE = "This page’s module has no calls for infinite quotients, so nothing plays here.";
 
 const HOW = ". Choose adjacent tokens of a heap; what is left on either side stays as heaps. " +
     "The program plays by the certified quotient: where a move wins, it makes one.";
@@ -23,7 +26,9 @@ const HOW = ". Choose adjacent tokens of a heap; what is left on either side sta
 export async function playView(page, root, word) {
   const said = playOf(word);
   const name = said.name || USUAL_NAME;
-  const heaps = said.heaps ?? usualHeaps(page, name);
+  const rule = make("strong", {}, "the player who makes the last move loses");
+  fill(root, make("h1", {}, "Play"), make("p", {}, "Each in turn makes a move, and ", rule, HOW));
+  const heaps = said.heaps ?? (await usualHeaps(page, name));
   const board = make("div", {id: "board"});
   const setup = setupForm(page, name, heaps);
   setup.addEventListener("submit", (event) => {
@@ -31,8 +36,7 @@ export async function playView(page, root, word) {
     const {name, heaps, first} = Object.fromEntries(new FormData(setup));
     return begin(page, board, String(name).trim(), String(heaps), first === "program" ? "program" : "you");
   });
-  const rule = make("strong", {}, "the player who makes the last move loses");
-  fill(root, make("h1", {}, "Play"), make("p", {}, "Each in turn makes a move, and ", rule, HOW), setup, board);
+  root.append(setup, board);
   await begin(page, board, name, heaps, null);
 }
 
@@ -45,19 +49,21 @@ export async function playView(page, root, word) {
  * @param {import("../play/session.js").Player | null} first
  */
 async function begin(page, board, name, heaps, first) {
-  const text = page.collection.find(name);
+  const text = await page.collection.find(name);
   const sizes = heapsOfText(heaps)?.map(Number);
-  const fault = faultOf(text, sizes);
+  const oracle = new Oracle(page.prover, new TextEncoder().encode(text ?? ""));
+  const fault = faultOf(text, sizes) || ((await oracle.isAble()) ? "" : UNABLE);
+  if (!board.isConnected) return;
   if (!text || !sizes || fault) return fill(board, make("p", {class: "verdict none", role: "alert"}, fault));
   const address = playAddress(name, sizes);
-  const {code} = fieldsOf(text);
+  const {code} = readingOf(text);
   const kept = first ? null : keptSession(code, history.state?.play, address);
   if (first && location.hash !== address)
     history.pushState(null, "", address);
   else
     history.replaceState({...history.state, play: kept?.record}, "", address);
   const session = kept ?? new Session(code, {name, first: sizes, turns: []});
-  const it = new Board(page, board, new TextEncoder().encode(text), session);
+  const it = new Board(board, oracle, session);
   await (first === "program" ? it.reply() : it.turn());
 }
 
@@ -83,18 +89,17 @@ function faultOf(text, heaps) {
   if (!heaps || heaps.length === 0) return "A position is a list of heaps, such as 3 4 5.";
   if (heaps.length > MOST_HEAPS_PLAYED || Math.max(...heaps) > LARGEST_HEAP_PLAYED)
     return `A board has up to ${MOST_HEAPS_PLAYED} heaps of at most 10^15.`;
-  const last = lastHeap(fieldsOf(text));
-  return last !== null && Math.max(...heaps) > last ? `The certificate speaks of heaps up to ${last}.` : "";
+  const {reach, speaksOf} = readingOf(text);
+  return speaksOf(heaps) ? "" : `The certificate speaks of ${reach}.`;
 }
 
 /**
  * @param {Page} page
  * @param {string} name
  */
-function usualHeaps(page, name) {
-  const text = page.collection.find(name);
-  const last = text ? lastHeap(fieldsOf(text)) : null;
-  return last === null ? USUAL_HEAPS : USUAL_HEAPS.split(",").map((heap) => Math.min(Number(heap), last)).join(",");
+async function usualHeaps(page, name) {
+  const text = await page.collection.find(name);
+  return (text ? readingOf(text).usual : USUAL_HEAPS).join(",");
 }
 
 /**
@@ -108,7 +113,7 @@ function setupForm({atlas}, name, heaps) {
   const deal = () => (sizes.value = dealt(atlas, game.value.trim()));
   const game = make(
       "input",
-      {id: "code", name: "name", value: name, list: "codes", autocomplete: "off", spellcheck: "false", size: 8});
+      {id: "code", name: "name", value: name, list: "codes", autocomplete: "off", spellcheck: "false", size: 12});
   return make(
       "form", {class: "row setup"}, codes, labelled("Game", game), labelled("Heaps", sizes),
       make("button", {type: "button", id: "deal", onclick: deal}, "Other heaps"),
@@ -123,7 +128,10 @@ function setupForm({atlas}, name, heaps) {
  * @param {string} name
  */
 function dealt(atlas, name) {
-  const most = Math.min(12, atlas.byCode.get(name)?.last ?? 12);
+  const [code, part] = name.split("/");
+  const [last, ...leftOut] = part ? part.split("-").map(Number) : [atlas.byCode.get(code)?.last ?? LARGEST_DEALT];
+  const sizes = Array.from({length: Math.min(LARGEST_DEALT, last)}, (_, at) => at + 1);
+  const all = sizes.filter((heap) => !leftOut.includes(heap));
   const chance = (/** @type {number} */ count) => Math.floor(Math.random() * count);
-  return Array.from({length: 3 + chance(3)}, () => 1 + chance(most)).join(" ");
+  return Array.from({length: 3 + chance(3)}, () => all[chance(all.length)]).join(" ");
 }

@@ -1,0 +1,77 @@
+// What the lines of a certificate of an infinite quotient say. (The page's own reading.)
+
+/**
+ * @typedef {object} Infinite
+ * @property {string} text
+ * @property {string} code
+ * @property {number} last its last heap
+ * @property {number[]} leftOut the smaller heaps of which it doesn't speak
+ * @property {number} order how many elements its monoid has
+ * @property {number} tracks how many tracks it has
+ * @property {number[]} base three positions: base, base + up, base + 2 up, .. are told apart, and downs undo ups
+ * @property {number[]} up
+ * @property {number[]} down
+ */
+
+/**
+ * Whether bytes or a text begin as such a certificate does.
+ * @param {Uint8Array | string} certificate
+ */
+export function isInfinite(certificate) {
+  const begin = certificate.slice(0, 4);
+  return (typeof begin === "string" ? begin : new TextDecoder().decode(begin)) === "mqi ";
+}
+
+/**
+ * @param {string} text
+ * @returns {Infinite}
+ */
+export function infiniteOf(text) {
+  const lines = text.split("\n").map((line) => line.split(" "));
+  const words = (/** @type {string} */ name) => lines.find(([first]) => first === name)?.slice(1) ?? [];
+  const numbers = (/** @type {string} */ name) => words(name).map(Number);
+  return {
+    text,
+    code: words("code")[0],
+    last: numbers("heaps")[0],
+    leftOut: words("phi").flatMap((word, at) => (word === "-" ? [at + 1] : [])),
+    order: numbers("order")[0],
+    tracks: lines.filter(([first]) => first === "track").length,
+    base: numbers("base"),
+    up: numbers("up"),
+    down: numbers("down"),
+  };
+}
+
+/**
+ * The name of such a certificate: its code, its last heap, and behind a dash each heap that is left out.
+ * @param {Infinite} certificate
+ */
+export function infiniteName({code, last, leftOut}) {
+  return `${code}/${[last, ...leftOut].join("-")}`;
+}
+
+/**
+ * The heaps of which it speaks, in words.
+ * @param {Infinite} certificate
+ */
+export function heapsTold({last, leftOut}) {
+  return `the heaps 1 to ${last}${leftOut.length ? ` without ${leftOut.join(" and ")}` : ""}`;
+}
+
+/**
+ * The line with which the program accepts it.
+ * @param {Infinite} certificate
+ */
+export function infiniteVerdict({code, last, leftOut}) {
+  return `infinite ${code} heaps ${last}${leftOut.length ? ` without ${leftOut.join(" ")}` : ""}`;
+}
+
+/**
+ * Whether it speaks of all these heaps.
+ * @param {Infinite} certificate
+ * @param {(number | bigint)[]} heaps
+ */
+export function speaksOf({last, leftOut}, heaps) {
+  return heaps.every((heap) => heap <= last && !leftOut.includes(Number(heap)));
+}

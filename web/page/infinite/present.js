@@ -1,0 +1,155 @@
+// A certificate of an infinite quotient is checked, and where the checker accepts it, all that is told of it is shown.
+
+import {gameAddress, playAddress} from "../address.js";
+import {fill, make} from "../dom.js";
+import {askForm, outcomeOf} from "../game/ask.js";
+import {certificateOf} from "../game/certificate_section.js";
+import {ruleSection} from "../game/quotient.js";
+import {Oracle} from "../oracle.js";
+import {MOST_HEAPS_PLAYED} from "../play/bounds.js";
+import {isNo, told} from "../refusals.js";
+import {explained} from "../terms.js";
+
+import {familyPicture, memberOf, writtenOf} from "./family.js";
+import {heapsTold, infiniteName, infiniteOf, infiniteVerdict} from "./fields.js";
+
+/** @typedef {import("../main.js").Page} Page */
+/** @typedef {import("./fields.js").Infinite} Infinite */
+
+const NOT_CHECKED =
+    "Not checked here: this page’s module has no calls for infinite quotients. The program checks it, " +
+    "by misere infinite.";
+
+/**
+ * Shows the verdict on a certificate, and behind a yes what it tells; nothing more once another verdict has its place.
+ * @param {Page} page
+ * @param {HTMLElement} root
+ * @param {Uint8Array} bytes
+ */
+export async function presentInfinite(page, root, bytes) {
+  const verdict = make("p", {class: "verdict", id: "verdict", role: "status"}, "Checking …");
+  fill(root, verdict);
+  try {
+    const oracle = new Oracle(page.prover, bytes);
+    if (!(await oracle.isAble())) return showUnchecked(root, verdict, bytes);
+    const time = await oracle.check();
+    if (root.firstChild !== verdict) return;
+    const certificate = infiniteOf(new TextDecoder().decode(bytes));
+    verdict.classList.add("yes");
+    fill(verdict, infiniteVerdict(certificate), make("span", {class: "soft"}, ` (checked here in ${inWords(time)})`));
+    root.append(...sectionsOf(page, oracle, certificate));
+  } catch (failure) {
+    verdict.classList.add(isNo(failure) ? "no" : "none");
+    fill(verdict, told(failure));
+  }
+}
+
+/** @param {number} time */
+function inWords(time) {
+  return time < 1 ? "less than 1 ms" : `${time.toFixed(0)} ms`;
+}
+
+/**
+ * What the text says, where nothing can be asked. No verdict.
+ * @param {HTMLElement} root
+ * @param {HTMLElement} verdict
+ * @param {Uint8Array} bytes
+ */
+function showUnchecked(root, verdict, bytes) {
+  verdict.classList.add("none");
+  fill(verdict, NOT_CHECKED);
+  const certificate = infiniteOf(new TextDecoder().decode(bytes));
+  if (!certificate.code || !certificate.last) return;
+  const said = `It claims: ${theoremOf(certificate)}`;
+  root.append(
+      make("p", {class: "partial", id: "theorem"}, said), ruleSection(certificate.code), certificateOf(certificate));
+}
+
+/** @param {Infinite} certificate */
+export function theoremOf(certificate) {
+  const {code} = certificate;
+  return `The misère quotient of ${heapsTold(certificate)} of ${code} is infinite, so neither these heaps nor the ` +
+      `whole game of ${code} have a finite one.`;
+}
+
+/**
+ * @param {Page} page
+ * @param {Oracle} oracle
+ * @param {Infinite} certificate
+ */
+function sectionsOf(page, oracle, certificate) {
+  const name = page.collection.keep(certificate.text);
+  return [
+    make("p", {class: "partial", id: "theorem"}, explained("No finite quotient"), `. ${theoremOf(certificate)}`),
+    make(
+        "p", {class: "links"}, make("a", {href: playAddress(name, startOf(certificate))}, "Play against it"), " ",
+        make("a", {href: gameAddress(certificate.code)}, `What is finite of ${certificate.code}`)),
+    ruleSection(certificate.code),
+    factSection(certificate),
+    familySection(oracle, name, certificate),
+    askSection(oracle, name, certificate),
+    certificateOf(certificate),
+  ];
+}
+
+/** @param {Infinite} certificate */
+function factSection(certificate) {
+  const {order, tracks, base, up, down} = certificate;
+  /** @type {[string, string][]} */
+  const facts = [
+    ["Heaps", heapsTold(certificate).replace("the heaps ", "")],
+    ["Monoid", `${order} elements`],
+    ["Tracks", String(tracks)],
+    ["Base", writtenOf(base)],
+    ["Up", writtenOf(up)],
+    ["Down", writtenOf(down)],
+  ];
+  const rows =
+      facts.map(([name, value]) => make("tr", {}, make("th", {scope: "row"}, explained(name)), make("td", {}, value)));
+  return make(
+      "section", {}, make("h2", {}, "The certificate with tracks"),
+      make("table", {class: "facts"}, make("tbody", {}, rows)));
+}
+
+/**
+ * @param {Oracle} oracle
+ * @param {string} name
+ * @param {Infinite} certificate
+ */
+function familySection(oracle, name, certificate) {
+  const {base, up, down} = certificate;
+  const term = (/** @type {string} */ letter, /** @type {number[]} */ heaps) =>
+      [" + ", make("i", {}, letter), heaps.length > 1 ? ` · (${writtenOf(heaps)})` : ` · ${writtenOf(heaps)}`];
+  const said = make(
+      "p", {}, "The positions ", writtenOf(base), term("j", up), term("k", down),
+      ": of base, base + up, " +
+          "base + 2·up, .. each two are told apart by some position.");
+  return make(
+      "section", {}, make("h2", {}, "Its family"), said,
+      make("div", {class: "pictures"}, familyPicture(oracle, name, certificate)));
+}
+
+/**
+ * @param {Oracle} oracle
+ * @param {string} name
+ * @param {Infinite} certificate
+ */
+function askSection(oracle, name, certificate) {
+  const usual = memberOf(certificate, 1, 1);
+  const saidOf = async (/** @type {bigint[]} */ heaps) => {
+    const answer = await oracle.answer(heaps);
+    const isPlayable = heaps.length <= MOST_HEAPS_PLAYED;
+    return [outcomeOf(answer), " ", isPlayable && make("a", {href: playAddress(name, heaps)}, "Play it")];
+  };
+  const label = `Heaps, of ${heapsTold(certificate).replace("the heaps ", "")}`;
+  return askForm(label, usual.join(" "), saidOf);
+}
+
+/**
+ * A position to begin a play at: a small one of the family, or else of its first heaps.
+ * @param {Infinite} certificate
+ */
+function startOf(certificate) {
+  const heaps = memberOf(certificate, 1, 1);
+  return heaps.length <= MOST_HEAPS_PLAYED ? heaps : heaps.slice(0, MOST_HEAPS_PLAYED);
+}

@@ -1,0 +1,34 @@
+// What a play needs of a certificate, of a finite quotient or of an infinite one.
+
+import {fieldsOf, lastHeap} from "../certificate.js";
+import {memberOf} from "../infinite/family.js";
+import {heapsTold, infiniteOf, isInfinite, speaksOf} from "../infinite/fields.js";
+
+export const USUAL_HEAPS = [3, 4, 5];
+
+/**
+ * @typedef {object} Reading
+ * @property {string} code
+ * @property {string} reach of which heaps it speaks, in words
+ * @property {(heaps: number[]) => boolean} speaksOf whether it speaks of all these
+ * @property {number[]} usual heaps to begin with
+ */
+
+/**
+ * @param {string} text
+ * @returns {Reading}
+ */
+export function readingOf(text) {
+  if (isInfinite(text)) {
+    const it = infiniteOf(text);
+    return {code: it.code, reach: heapsTold(it), speaksOf: (heaps) => speaksOf(it, heaps), usual: memberOf(it, 1, 1)};
+  }
+  const certificate = fieldsOf(text);
+  const last = lastHeap(certificate) ?? Infinity;
+  return {
+    code: certificate.code,
+    reach: `heaps up to ${last}`,
+    speaksOf: (heaps) => heaps.every((heap) => heap <= last),
+    usual: USUAL_HEAPS.map((heap) => Math.min(heap, last)),
+  };
+}
