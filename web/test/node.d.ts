@@ -16,4 +16,5 @@ declare module "node:test" {
     diagnostic(text: string): void;
   }
   export default function test(name: string, body: (t: Row) => unknown): Promise<void>;
+  export default function test(name: string, how: {skip: string | false}, body: (t: Row) => unknown): Promise<void>;
 }

@@ -14,11 +14,11 @@ const drop = new DragEvent('drop', {dataTransfer: data, bubbles: true, cancelabl
 document.querySelector('form.drop').dispatchEvent(drop);"""
 
 
-def judged(it, act):
+def judged(it, act, verdicts=("yes ", "no ", "No verdict")):
     """The verdict behind an act."""
     it.run("document.querySelector('#verdict')?.remove()")
     act()
-    return it.said("#verdict", "yes ", "no ", "No verdict")
+    return it.said("#verdict", *verdicts)
 
 
 def drive(it, program, steps):

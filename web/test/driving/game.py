@@ -98,6 +98,12 @@ def keeps(it, program, steps):
 
 
 def parts(it, program, steps):
+    it.go("#game=0.07/33")
+    said = it.said("#verdict", "yes 0.07")
+    steps.expect("a further part of a code", said.startswith("yes 0.07 order 638 heaps 33"), said)
+    links = [link.get_attribute("href").split("#")[1] for link in it.wait(lambda: it.all("#parts a"))]
+    wanted = {"game=0.07/24", "game=0.07/34", "game=0.07/34-33"}
+    steps.expect("leads to the others", wanted <= set(links), links)
     it.go("#game=0.07")
     said = it.said("#verdict", "yes 0.07")
     it.one("#presentation")

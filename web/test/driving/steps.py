@@ -50,11 +50,15 @@ class Program:
         return self.module("script").load(self.root / "scripts" / name, name)
 
     def certificate(self, name):
-        return self.root / f"certificates/{name}.mqc"
+        return self.root / "certificates" / (name if name.endswith(".mqi") else f"{name}.mqc")
 
     def samples(self):
         folder = self.root / "certificates"
         return [*sorted(folder.glob("*.mqc")), *sorted(folder.glob("refused/*.mqc"))]
+
+    def infinite_samples(self):
+        folder = self.root / "certificates"
+        return [*sorted(folder.glob("*.mqi")), *sorted(folder.glob("refused/*.mqi"))]
 
     def told(self, *words):
         """What the program prints."""
@@ -62,7 +66,8 @@ class Program:
 
     def move(self, name, position):
         """The first winning move in a position, as the page writes it, or `lost`, or `ended`."""
-        words = self.told("play", self.certificate(name), position).split()
+        file = self.certificate(name)
+        words = self.told("infinite" if file.suffix == ".mqi" else "play", file, position).split()
         if words[0] != "wins":
             return words[0]
         left = [word for word in words[3:] if word != "0"]
@@ -70,6 +75,6 @@ class Program:
 
     def verdict(self, file):
         """The line of a verdict, with the failing position behind it as the page writes it."""
-        first, *rest = self.told("check", file).splitlines()
+        first, *rest = self.told("infinite" if file.suffix == ".mqi" else "check", file).splitlines()
         heaps = [word for line in rest for word in line.split()[3:] if word != "0"]
         return f"{first} at [{', '.join(heaps)}]" if first.startswith("no 7") else first

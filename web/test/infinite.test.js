@@ -1,0 +1,115 @@
+/** Certificates of infinite quotients: what the module tells, beside what the program prints. */
+import assert from "node:assert/strict";
+import test from "node:test";
+
+import {Failed, Misere, Refused} from "../calls.js";
+import {memberOf} from "../page/infinite/family.js";
+import {infiniteOf, infiniteVerdict} from "../page/infinite/fields.js";
+
+import {bytesOfModule, newMisere} from "./module.js";
+import {fileOf, infinite, numbersFrom, printed, refusedInfinite, sample, told} from "./setup.js";
+
+const misere = newMisere();
+const skip = misere.knowsInfinite() ? false : "the module has no calls for infinite quotients";
+/** Larger certificates are only checked. */
+const MOST_ASKED = 30000;
+const POSITIONS_OF_EACH = 200;
+
+/** @param {Uint8Array} bytes */
+function verdictOf(bytes) {
+  try {
+    misere.checkInfinite(bytes);
+  } catch (stop) {
+    if (!(stop instanceof Refused)) throw stop;
+    const [number, name] = stop.message.split(" ");
+    return [`no ${number} ${name}`, ...stop.heaps ? [`rule fails at ${stop.heaps.join(" ") || "0"}`] : []];
+  }
+  return [infiniteVerdict(infiniteOf(new TextDecoder().decode(bytes)))];
+}
+
+/** @param {Uint8Array} bytes */
+function verdictPrinted(bytes) {
+  const lines = printed("infinite", fileOf(bytes, "x.mqi")).split("\n");
+  return lines.filter((line) => line && !line.startsWith("outcome "));
+}
+
+test("verdict, number and position", {skip}, async (t) => {
+  for (const {name, bytes} of [...infinite, ...refusedInfinite, {name: "a finite one", bytes: sample("0.33")}])
+    await t.test(name, () => assert.deepEqual(verdictOf(bytes), verdictPrinted(bytes)));
+});
+
+/**
+ * Some positions of the heaps of which a certificate speaks, and of one more.
+ * @param {import("../page/infinite/fields.js").Infinite} certificate
+ * @param {(below: number) => number} random
+ */
+function positionsOf({last, leftOut}, random) {
+  const heaps = Array.from({length: last}, (_, at) => at + 1).filter((heap) => !leftOut.includes(heap));
+  const any = () => heaps[random(heaps.length)];
+  return Array.from({length: POSITIONS_OF_EACH}, () => Array.from({length: random(14)}, any));
+}
+
+/** @param {import("../calls.js").Answer} answer */
+function lineOf(answer) {
+  return answer.kind === "wins" ? `wins ${answer.heap} -> ${answer.left.join(" ") || "0"}` : answer.kind;
+}
+
+test("positions: outcome and winning move", {skip}, (t) => {
+  const random = numbersFrom(34);
+  let count = 0;
+  for (const {name, bytes} of infinite.filter(({bytes}) => bytes.length < MOST_ASKED)) {
+    const certificate = infiniteOf(bytes.toString()), positions = positionsOf(certificate, random);
+    const outcomes = [...misere.infiniteOutcomes(bytes, positions)];
+    const lines = misere.infiniteAnswers(bytes, positions).map(lineOf);
+    const file = fileOf(bytes, "x.mqi");
+    positions.slice(0, 4).forEach(
+        (heaps, at) => assert.equal(printed("infinite", file, heaps.join(" ") || "0").trim(), lines[at], name));
+    outcomes.forEach((outcome, at) => assert.equal(outcome, Number(lines[at] !== "lost"), `${name} ${positions[at]}`));
+    count += positions.length;
+  }
+  t.diagnostic(`${count} positions`);
+});
+
+test("the family of 0.354 is the one that docs/INFINITE.md tells", {skip}, () => {
+  const bytes = sample("0.354_heaps_5.mqi");
+  const twos = Array.from({length: 5}, (_, at) => at + 1), fives = Array.from({length: 24}, (_, at) => at + 1);
+  const cells = twos.flatMap((j) => fives.map((i) => ({j, i})));
+  const positions = cells.map(({j, i}) => [4, ...Array(j).fill(2), ...Array(i).fill(5)]);
+  const isLost = ({j = 0, i = 0}) => i - 3 * j >= 4 && (i - 3 * j) % 6 === 4;
+  assert.deepEqual([...misere.infiniteOutcomes(bytes, positions)], cells.map((it) => Number(!isLost(it))));
+});
+
+test("base and what is far up have other outcomes", {skip}, () => {
+  for (const {name, bytes} of infinite.filter(({bytes}) => bytes.length < MOST_ASKED)) {
+    const certificate = infiniteOf(bytes.toString());
+    const [base, ...far] = misere.infiniteOutcomes(bytes, [0, 40, 80].map((j) => memberOf(certificate, j, 0)));
+    assert.ok(far.some((it) => it !== base), name);
+  }
+});
+
+const small = sample("0.354_heaps_5.mqi");
+
+test("refusals", {skip}, () => {
+  assert.equal(told(() => misere.infiniteOutcomes(small, [[5], [6]])), "refused 23");
+  assert.equal(told(() => misere.infiniteAnswers(small, [[0]])), "refused 10");
+  assert.equal(told(() => misere.infiniteAnswers(sample("0.33"), [[1]])), "refused 1");
+  assert.equal(told(() => misere.check(small)), "refused 1");
+  assert.deepEqual([misere.infiniteOutcomes(small, []).length, misere.infiniteAnswers(small, []).length], [0, 0]);
+});
+
+test("what is open is opened anew behind a failure, and given back", {skip}, () => {
+  const other = newMisere(), asked = () => [...other.infiniteOutcomes(small, [[4], [5]])];
+  const first = asked();
+  assert.throws(() => other.check(/** @type {any} */ ("mqc 1")), Failed);
+  assert.deepEqual(asked(), first);
+  assert.ok(other.memory().live > 0);
+  other.close();
+  other.close();
+  assert.equal(other.memory().live, 0);
+});
+
+test("a module without these calls says so", () => {
+  const module = new WebAssembly.Module(bytesOfModule);
+  const has = WebAssembly.Module.exports(module).some(({name}) => name === "misere_infinite_open");
+  assert.equal(new Misere(module).knowsInfinite(), has);
+});
