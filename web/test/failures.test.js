@@ -5,7 +5,7 @@ import test from "node:test";
 import {Failed, Misere} from "../calls.js";
 
 import {withoutCode, withStack} from "./altered.js";
-import {bytesOfModule, newMisere} from "./module.js";
+import {bytesOfModule, INFINITE, newMisere} from "./module.js";
 import {sample, told} from "./setup.js";
 
 const dense = sample("0.77"), wrong = sample("refused/outcome_at_two_ones");
@@ -17,6 +17,7 @@ const CALLS = [
   ["winning moves", (it) => it.answers(dense, [[2, 3], []]).map(({kind}) => kind).join()],
   ["a description", (it) => it.describe(dense)],
   ["a search", (it) => it.solve("0.33")],
+  ...INFINITE,
 ];
 const STACKS = Array.from({length: 60}, (_, row) => 16 * Math.ceil(1.19 ** row));
 

@@ -3,7 +3,7 @@ import assert from "node:assert/strict";
 import test from "node:test";
 
 import {withPages} from "./altered.js";
-import {bytesOfModule, newMisere} from "./module.js";
+import {bytesOfModule, INFINITE, newMisere} from "./module.js";
 import {numbersFrom, sample, told} from "./setup.js";
 
 /** @typedef {import("../calls.js").Misere} Misere */
@@ -20,6 +20,7 @@ const CALLS = [
   ["a description", (it) => it.describe(dense)],
   ["a search", (it) => it.solve("0.33")],
   ["a search in vain", (it) => it.solve("0.77", {heaps: 8, rounds: 1})],
+  ...INFINITE,
 ];
 /** So many bounds are tried between no heap and as much as a call needs. */
 const BOUNDS = 300;
