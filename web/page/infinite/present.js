@@ -68,7 +68,7 @@ function showUnchecked(root, verdict, bytes) {
 /** @param {Infinite} certificate */
 export function theoremOf(certificate) {
   const {code} = certificate;
-  return `The misère quotient of ${heapsTold(certificate)} of ${code} is infinite, so neither these heaps nor the ` +
+  return `the misère quotient of ${heapsTold(certificate)} of ${code} is infinite, so neither these heaps nor the ` +
       `whole game of ${code} have a finite one.`;
 }
 
@@ -80,7 +80,7 @@ export function theoremOf(certificate) {
 function sectionsOf(page, oracle, certificate) {
   const name = page.collection.keep(certificate.text);
   return [
-    make("p", {class: "partial", id: "theorem"}, explained("No finite quotient"), `. ${theoremOf(certificate)}`),
+    make("p", {class: "partial", id: "theorem"}, explained("No finite quotient"), `: ${theoremOf(certificate)}`),
     make(
         "p", {class: "links"}, make("a", {href: playAddress(name, startOf(certificate))}, "Play against it"), " ",
         make("a", {href: gameAddress(certificate.code)}, `What is finite of ${certificate.code}`)),
