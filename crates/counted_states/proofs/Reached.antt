@@ -1,14 +1,18 @@
 -- What the tables reach is what is possible.
-use Rattle.std.proofs.Common.{◌≡◌, ℕ, zero, suc, ◌<◌, ◌⊎◌, ℤ, inl, inr, Bool, true, false, ◌&&◌, ◌||◌, List, [], ◌∷◌, slice_index, refl, ◌∙◌, ap, ap₂, subst, arith}
+use Rattle.std.proofs.Common.{◌≡◌, ℕ, zero, suc, ◌<◌, ◌⊎◌, ℤ, inl, inr, Bool, true, false, ◌&&◌, ◌||◌, List, [], ◌∷◌, slice_index, refl, sym, ◌∙◌, ap, ap₂, subst, arith}
 use Rattle.std.specs.Ordering.{int_eq}
 use Rattle.std.specs.Cmp.{both_ways}
 use Rattle.std.specs.Cmp.Derive.{both_true as into_both}
 use Rattle.std.proofs.lemmas.Bool.Decides.{Decides-int_eq}
-use Rattle.counted_claims.specs.Counted.{SpeaksOfHeap, counted}
-use Rattle.counted_claims.specs.Places.{plus, weight_of, AreCounts, ArePossible}
+use Rattle.misere_theory.specs.Games.{IsPosition}
+use Rattle.misere_theory.specs.Quotients.{Monoid, GivesElements}
+use Rattle.counted_claims.specs.Counted.{CountedClaim, SpeaksOfHeap, IsPart, elements_of, element, counted}
+use Rattle.counted_claims.specs.Places.{plus, weight_of, AreCounts, AreTried, ArePossible}
+use Rattle.counted_claims.proofs.Values.{counted-cons, counted_are, element_in}
 use Rattle.counted_claims.specs.Folds.{folds_of, in_plane, TrackedClaim, claim_on_tracks, folded, finer_folds, finest_folds, possible_on, IsReach}
 use Rattle.counted_claims.proofs.FewPlaces.{both_true}
 use Rattle.counted_states.specs.Numbers.{Tables, KeptPairs, entry, times, is_reached, AreTestedIn}
+use Rattle.counted_states.specs.Idle.{AreReached}
 use Rattle.counted_states.specs.Numbering.{Numbering, Describes, ArePlacesApart, are_same, some_below, reached_in}
 use Rattle.counted_states.proofs.Below.{last_or_before}
 
@@ -60,20 +64,24 @@ reached_agrees b t apart f x fi xi =
     (λ h. into_some t.places (λ y. is_reached t f y && are_same (b.place y) (b.place x)) x xi
     (into_both h (same_as_itself (b.place x))))
 
+-- What is tested goes on.
+pub what_is_tested : (t : Tables) (kept : KeptPairs) → AreTestedIn t kept → AreReached t
+what_is_tested t kept a = record {
+  some = let (p, pi, h) = a.start in subst (λ x. x < t.order) h.value (a.within p pi).value;
+  start = a.sound.start;
+  onward = λ f s fi si h i ii. record { onward = (a.sound.sound f s fi si h i ii).onward };
+}
+
 module _ (code : List ℕ) (k : TrackedClaim) (D W : List (List ℤ)) (ms : List ℕ)
-    (reach : ℕ → List ℤ → Bool) (b : Numbering) (t : Tables) (kept : KeptPairs) (order : k.order ≡ t.order)
+    (reach : ℕ → List ℤ → Bool) (b : Numbering) (t : Tables) (order : k.order ≡ t.order)
     (says : (f x : ℕ) → f < t.order → x < t.places → reach f (b.place x) ≡ is_reached t f x)
     (r : Describes code (claim_on_tracks k) (folded (finer_folds k D ms))
-    (folded (finest_folds k D W ms)) (possible_on k D ms reach) b t) (a : AreTestedIn t kept)
+    (folded (finest_folds k D W ms)) (possible_on k D ms reach) b t) (a : AreReached t)
     (plane : ArePossible (claim_on_tracks k) (SpeaksOfHeap (claim_on_tracks k))
     (folded (finest_folds k D W ms)) (possible_on k D ms (λ f v. true))) where
-  some_element : 0 < t.order
-  some_element =
-      let (p, pi, h) = a.start in subst (λ x. x < t.order) h.value (a.within p pi).value
-
   start : reach 0 (folded (finer_folds k D ms) (counted (claim_on_tracks k) [])) ≡ true
   start =
-      ap (reach 0) r.start ∙ (says 0 t.start some_element r.start_in ∙ a.sound.start)
+      ap (reach 0) r.start ∙ (says 0 t.start a.some r.start_in ∙ a.start)
 
   there : (f i s : ℕ) → f < t.order → i < t.heaps → s < t.points
       → is_reached t f (slice_index t.place_of s) ≡ true
@@ -86,7 +94,7 @@ module _ (code : List ℕ) (k : TrackedClaim) (D W : List (List ℤ)) (ms : List
       ap₂ reach e (r.onward i s ii si)
       ∙ (says (times t (slice_index t.phi i) f) (entry t.onward t.points i s)
       (r.closed (slice_index t.phi i) f xi fi) (r.onward_in i s ii si)
-      ∙ (a.sound.sound f s fi si h i ii).onward)
+      ∙ (a.onward f s fi si h i ii).onward)
 
   step : (f n : ℕ) (v : List ℤ) → f < k.order → SpeaksOfHeap (claim_on_tracks k) n
       → AreCounts (claim_on_tracks k) v → folded (finest_folds k D W ms) v ≡ v
@@ -122,3 +130,19 @@ module _ (code : List ℕ) (k : TrackedClaim) (D W : List (List ℤ)) (ms : List
 
 pub everything : (k : TrackedClaim) (D : List (List ℤ)) (ms : List ℕ) → IsReach k D ms (λ f v. true)
 everything k D ms = record { start = refl; step = λ f n c d fi hn h a. refl }
+
+-- What positions have is possible. By induction on the position.
+module _
+    (heap : ℕ → Type 0) (code : List ℕ) (part : IsPart heap code) (c : CountedClaim)
+    (m : Monoid c.order c.times) (phi_in : GivesElements heap (elements_of c))
+    (place tried : List ℤ → List ℤ) (possible : ℕ → List ℤ → Bool)
+    (tries : AreTried code c heap place tried possible) (likely : ArePossible c heap tried possible) where
+  pub possible_of : (X : List ℕ) → IsPosition heap X → possible (element c X) (counted c X) ≡ true
+  possible_of [] w = likely.start
+  possible_of (n ∷ X) w =
+      let (a, again) = tries.once (counted c X) (counted_are c X) in
+      ap (possible (element c (n ∷ X))) (counted-cons c n X)
+      ∙ sym (tries.likely_beside n w.0 (element c (n ∷ X)) (counted c X) (counted_are c X))
+      ∙ likely.step (element c X) n (tried (counted c X)) (element_in heap code part c m phi_in X w.1)
+      w.0 a again
+      (tries.likely (element c X) (counted c X) (counted_are c X) ∙ possible_of X w.1)

@@ -1,3 +1,4 @@
 pub mod Numbers
+pub mod Idle
 pub mod Listed
 pub mod Numbering

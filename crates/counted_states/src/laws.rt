@@ -1,9 +1,11 @@
 //! What the test of numbers comes to.
-ghost use Rattle.std.specs.Prelude.{◌≡◌, ◌<◌, ℕ, ℤ, Bool, List};
+ghost use Rattle.std.specs.Prelude.{◌≡◌, ◌<◌, ℕ, ℤ, Bool, true, List};
+ghost use Rattle.misere_theory.specs.Games.{IsPosition};
 ghost use Rattle.misere_theory.specs.Quotients.{Monoid, GivesElements};
-ghost use Rattle.counted_claims.specs.Counted.{CountedClaim, SpeaksOfHeap, elements_of, IsPart, Predicts};
+ghost use Rattle.counted_claims.specs.Counted.{CountedClaim, SpeaksOfHeap, element, elements_of, counted, IsPart, Predicts};
 ghost use Rattle.counted_claims.specs.Places.{ArePossible};
 ghost use Rattle.counted_claims.specs.Folds.{TrackedClaim, claim_on_tracks, folded, finer_folds, finest_folds, possible_on, AreFolds};
+ghost use Rattle.counted_states.specs.Idle.{AreReached};
 ghost use Rattle.counted_states.specs.Numbers.{Tables, KeptPairs, AreTestedIn, is_reached};
 ghost use Rattle.counted_states.specs.Numbering.{Numbering, Describes, AreTested, states_of, ArePlacesApart, reached_in};
 
@@ -52,4 +54,23 @@ pub fn tested_numbers_predict()
     folds_are_enough();
     tested_claims_predict();
     tested_numbers_are_tested_states();
+}
+
+/// Each position's element can be at its place, if what the tables reach goes on.
+pub fn positions_are_reached()
+    ensures { (code : List ℕ) (k : TrackedClaim) (D W : List (List ℤ)) (ms : List ℕ)
+        (reach : ℕ → List ℤ → Bool) (b : Numbering) (t : Tables)
+        → IsPart (SpeaksOfHeap (claim_on_tracks k)) code
+        → Monoid k.order k.times
+        → GivesElements (SpeaksOfHeap (claim_on_tracks k)) (elements_of (claim_on_tracks k))
+        → k.order ≡ t.order
+        → AreFolds code k D W ms
+        → ((f x : ℕ) → f < t.order → x < t.places → reach f (b.place x) ≡ is_reached t f x)
+        → Describes code (claim_on_tracks k) (folded (finer_folds k D ms))
+        (folded (finest_folds k D W ms)) (possible_on k D ms reach) b t
+        → AreReached t
+        → (X : List ℕ) → IsPosition (SpeaksOfHeap (claim_on_tracks k)) X
+        → possible_on k D ms reach (element (claim_on_tracks k) X) (counted (claim_on_tracks k) X) ≡ true }
+{
+    folds_are_enough();
 }

@@ -5,6 +5,7 @@ mod closing;
 mod covers;
 mod explore;
 mod finder;
+mod idle;
 mod laws;
 mod onward;
 mod product;
@@ -20,6 +21,7 @@ mod tried;
 mod verify;
 
 pub use explore::reach_of;
-pub use laws::{tested_numbers_are_tested_states, tested_numbers_predict};
+pub use idle::idle_cell;
+pub use laws::{positions_are_reached, tested_numbers_are_tested_states, tested_numbers_predict};
 pub use tables::{KeptPairs, Tables};
 pub use testing::{Untested, tested_states};

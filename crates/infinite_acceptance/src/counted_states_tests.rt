@@ -1,10 +1,10 @@
 //! A heap of 1 that can only be taken whole: with an odd number of them a position is P.
 use allocation::Memory;
-use counted_states::{KeptPairs, Tables, Untested, reach_of, tested_states};
+use counted_states::{KeptPairs, Tables, Untested, idle_cell, reach_of, tested_states};
 use std::alloc::Allocator;
 
-/// The tables of the claim that positions of one element are P, of two elements, those of even and of odd
-/// numbers of heaps.
+/// The tables of the claim that positions of some elements are P, of two elements, those of even and of odd
+/// numbers of heaps: of each element a mark for each cell, at the first of which all positions are.
 fn tables<A: Allocator + Copy>(alloc: A, region: &[bool]) -> Result<Tables<A>, Memory> {
     let mut t = Tables {
         order: 2,
@@ -12,7 +12,7 @@ fn tables<A: Allocator + Copy>(alloc: A, region: &[bool]) -> Result<Tables<A>, M
         heaps: 1,
         points: 1,
         places: 1,
-        cells: 1,
+        cells: region.len() / 2,
         rows: Vec::from_slice(alloc, &[0, 1, 1, 0])?,
         phi: Vec::from_slice(alloc, &[1])?,
         first: Vec::from_slice(alloc, &[0, 1])?,
@@ -79,6 +79,32 @@ fn claims_of_one_heap(rt: HostRuntime) {
             Ok(*wanted),
             "{name}"
         );
+    }
+}
+
+/// The element and the cell that are answered, of claims with two cells.
+static IDLE: [(&str, [bool; 4], Option<(usize, usize)>); 3] = [
+    ("odd ones", [false, false, true, false], None),
+    (
+        "odd ones, where they aren't too",
+        [false, false, true, true],
+        Some((1, 1)),
+    ),
+    (
+        "even ones where they aren't",
+        [false, true, true, false],
+        Some((0, 1)),
+    ),
+];
+
+#[test]
+fn cells_of_no_position(rt: HostRuntime) {
+    let alloc = rt.alloc();
+    for (name, region, wanted) in &IDLE {
+        match tables(alloc, region) {
+            Ok(t) => assert_eq!(rt; idle_cell(alloc, &t), Ok(*wanted), "{name}"),
+            Err(_) => assert!(rt; false, "memory"),
+        }
     }
 }
 
