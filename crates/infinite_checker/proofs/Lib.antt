@@ -6,4 +6,5 @@ mod Answered
 mod Words
 mod Numbered
 mod Flat
+mod Idle
 mod Described

@@ -3,6 +3,7 @@ ghost use Rattle.std.specs.Prelude.{◌≡◌, ◌<◌, ℕ, ℤ, Bool, List};
 ghost use Rattle.misere_theory.specs.Quotients.{Monoid};
 ghost use Rattle.counted_claims.specs.Folds.{folded, finer_folds, finest_folds, claim_on_tracks, possible_on, AreFolds};
 ghost use Rattle.counted_claims.specs.Tracked.{tracked_claim_of};
+ghost use Rattle.counted_states.specs.Idle.{AreReached, IsIdle};
 ghost use Rattle.counted_states.specs.Numbers.{KeptPairs, is_reached, AreTestedIn};
 ghost use Rattle.counted_states.specs.Numbering.{Describes};
 ghost use Rattle.tracked_claims.specs.Fields.{Fields, certificate_in};
@@ -10,13 +11,14 @@ ghost use Rattle.tracked_claims.specs.Reads.{claim_in};
 ghost use Rattle.tracked_moves.specs.Moves.{Moves, AreMoves};
 ghost use Rattle.tracked_places.specs.Points.{Points, ArePoints, place_at};
 ghost use Rattle.tracked_text.specs.Said.{Said, InRanges, fields_of};
+ghost use Rattle.infinite_answers.specs.Answers.{HasIdlePlace};
 ghost use Rattle.infinite_answers.specs.Shown.{IsShown};
 ghost use Rattle.infinite_checker.specs.Ray.{IsRayIn};
 ghost use Rattle.infinite_checker.specs.Right.{IsRightIn};
 ghost use Rattle.infinite_checker.specs.Joined.{axes_of, tables_of, numbering_of, changes_of, weights_of};
 
-use counted_claims::tested_tracked_certificates_are_accepted;
-use counted_states::tested_numbers_predict;
+use counted_claims::{folds_are_enough, tested_tracked_certificates_are_accepted};
+use counted_states::{positions_are_reached, tested_numbers_predict};
 use tracked_text::fields_are_shaped;
 
 /// Tables of a certificate's heaps, and tables of places made of their weights and changes, say together
@@ -53,6 +55,23 @@ pub(crate) fn right_by_tables()
 {
     joined_tables_describe();
     tested_numbers_predict();
+}
+
+/// Where the joined tables reach an element nowhere at a cell of its region, no position has the place with
+/// the element.
+pub(crate) fn idle_by_tables()
+    ensures { (t : Fields) (periods : List ℕ) (m : Moves) (p : Points) (reach : List Bool) (f z : ℕ)
+        → Monoid t.order (claim_in t).times
+        → AreMoves t.code (claim_in t) m
+        → ArePoints (axes_of t periods m) p
+        → AreReached (tables_of t m p reach)
+        → IsIdle (tables_of t m p reach) f z
+        → HasIdlePlace t }
+{
+    joined_tables_describe();
+    tested_numbers_predict();
+    positions_are_reached();
+    folds_are_enough();
 }
 
 /// What is said is shown, if its claim is right and its positions are a ray.

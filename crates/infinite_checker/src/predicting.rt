@@ -3,17 +3,17 @@ ghost use Rattle.std.specs.Prelude.{◌≡◌, IsOk, IfOk, IfErr, ℕ, List};
 ghost use Rattle.misere_theory.specs.Quotients.{Monoid};
 ghost use Rattle.counted_states.specs.Numbers.{AreTestedIn};
 ghost use Rattle.tracked_claims.specs.Reads.{claim_in};
-ghost use Rattle.tracked_moves.specs.Moves.{AreMoves};
-ghost use Rattle.tracked_places.specs.Points.{ArePoints};
+ghost use Rattle.tracked_moves.specs.Moves.{AreMoves, Moves as MovesIn};
+ghost use Rattle.tracked_places.specs.Points.{ArePoints, Points as PointsIn};
 ghost use Rattle.infinite_answers.specs.Answers.{FitsIn};
 ghost use Rattle.infinite_answers.specs.Refusals.{refused};
 ghost use Rattle.infinite_checker.specs.Joined.{axes_of, tables_of};
 ghost use Rattle.infinite_checker.specs.Right.{IsRightIn};
 
 use crate::joining::{axes, tables};
-use crate::laws::right_by_tables;
+use crate::laws::{idle_by_tables, right_by_tables};
 use allocation::{Memory, SmallAllocator};
-use counted_states::{KeptPairs, Tables, Untested, tested_states};
+use counted_states::{KeptPairs, Tables, Untested, idle_cell, tested_states};
 use infinite_answers::InfiniteRefusal;
 use tracked_claims::Tracked;
 use tracked_moves::{Moves, MovesFault, moves_of};
@@ -92,6 +92,28 @@ fn joined<A: SmallAllocator + Copy>(
     }
 }
 
+/// Whether no element is seen to be P at a place that no position has with it.
+fn occupied<A: SmallAllocator + Copy>(
+    alloc: A,
+    t: &Tracked<A>,
+    tables: &Tables<A>,
+) -> Result<(), InfiniteRefusal<A>>
+    ensures { (periods : List ℕ) (m : MovesIn) (p : PointsIn)
+        → Monoid t.now.order (claim_in t.now).times
+        → AreMoves t.now.code (claim_in t.now) m
+        → ArePoints (axes_of t.now periods m) p
+        → tables.now ≡ tables_of t.now m p tables.now.reach
+        → IfErr result (λ r. (words : List (ℕ × ℕ)) → FitsIn t.now words (refused r)) }
+{
+    idle_by_tables();
+    let _ = t;
+    match idle_cell(alloc, tables) {
+        Ok(None) => Ok(()),
+        Ok(Some(_)) => Err(InfiniteRefusal::Idle),
+        Err(Memory) => Err(InfiniteRefusal::Memory),
+    }
+}
+
 /// Why the rule wasn't seen to hold: it fails at a position, which is looked for, first at that of the heaps
 /// of these numbers; or none is found.
 fn refuted<A: SmallAllocator + Copy>(alloc: A, t: &Tracked<A>, word: &[u32]) -> InfiniteRefusal<A>
@@ -145,6 +167,7 @@ pub(crate) fn predicted<A: SmallAllocator + Copy>(
     let axes = spanned(alloc, t, &moves)?;
     let points = placed(alloc, t, &axes)?;
     let tables = joined(alloc, t, moves, points)?;
+    occupied(alloc, t, &tables)?;
     kept(alloc, t, &tables, limit)?;
     Ok(())
 }

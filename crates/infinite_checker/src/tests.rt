@@ -42,14 +42,18 @@ fn answer(alloc: Global, first: &str, third: &str, sixth: &str) -> u8 {
     }
 }
 
-/// A digit is changed as in a wrong text that other programs refused: by a search through all plays 2 + 3 is N,
-/// where the last one says P.
+/// A digit is changed as in wrong texts that other programs refused: by a search through all plays 2 + 3 is N, where
+/// the last two say P. Idle places are told first, so the last one, with both faults, gets a 32.
 #[test]
 fn judges_0_354(rt: HostRuntime) {
     let alloc = rt.alloc();
     let rows = [
         ("right", "8000", "4020", "0020", 0),
+        ("idle place of 1", "8200", "4020", "0020", 32),
+        ("another idle place of 1", "8004", "4020", "0020", 32),
+        ("idle place of 3", "8000", "4120", "0020", 32),
         ("P at 2 + 3", "8000", "4020", "0024", 7),
+        ("both", "8200", "4020", "0024", 32),
     ];
     for (name, first, third, sixth, wanted) in rows {
         assert_eq!(rt; answer(alloc, first, third, sixth), wanted, "{name}");
