@@ -56,11 +56,12 @@ export async function atlasView(page, root, word) {
 }
 
 /** @param {import("../atlas.js").Atlas} atlas */
-function introductionOf({entries, quotients, classes}) {
+function introductionOf({entries, quotients, classes, infinite}) {
   return `The misère quotients of ${entries.length} octal and hexadecimal games. ` +
       "In misère play the player who makes the last move loses. " +
       `There are ${quotients.length} quotients, told apart by the elements of their heaps too, ` +
-      `and ${classes.size} bipartite monoids up to isomorphism, as a script counted when this page was made.`;
+      `and ${classes.size} bipartite monoids up to isomorphism, as a script counted when this page was made. ` +
+      `Of ${infinite.size} games there are certificates that they have no finite quotient.`;
 }
 
 /**

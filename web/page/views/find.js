@@ -1,5 +1,6 @@
 // A search for the quotient of a code.
 
+import {gameAddress} from "../address.js";
 import {codeOfName, isCode} from "../codes.js";
 import {choice, fill, labelled, make} from "../dom.js";
 import {AIMS, soughtOf, soughtWord} from "../find/plan.js";
@@ -24,6 +25,7 @@ export async function findView(page, root, word) {
     make("ol", {id: "steps", "aria-live": "polite"}), make("progress", {hidden: true, "aria-label": "searching"}),
     make("div", {class: "told"})
   ];
+  const none = make("p", {id: "none"});
   const form = searchForm(word, () => page.finder.stop());
   const go = async () => {
     const sought = form.sought();
@@ -33,6 +35,7 @@ export async function findView(page, root, word) {
     history.replaceState(history.state, "", `#find=${soughtWord(sought)}`);
     form.atWork(true);
     bar.hidden = false;
+    fill(none, ...noneOf(page, sought.code));
     const found = await search(page, sought, steps);
     form.atWork(false);
     bar.hidden = true;
@@ -42,8 +45,20 @@ export async function findView(page, root, word) {
     event.preventDefault();
     return go();
   });
-  fill(root, make("h1", {}, "Find a quotient"), make("p", {}, HOW), form.element, bar, steps, out);
+  fill(root, make("h1", {}, "Find a quotient"), make("p", {}, HOW), form.element, none, bar, steps, out);
   if (word) await go();
+}
+
+/**
+ * What is told of a code of which no full quotient can be found.
+ * @param {Page} page
+ * @param {string} code
+ */
+function noneOf({atlas}, code) {
+  const [part] = atlas.infinite.get(code) ?? [];
+  if (!part) return [];
+  const link = make("a", {href: gameAddress(`${code}/${part}`)}, "A certificate of the atlas");
+  return [link, ` says that ${code} has no finite quotient, so only parts can be found.`];
 }
 
 /**
