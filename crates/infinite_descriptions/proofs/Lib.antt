@@ -1,0 +1,6 @@
+mod Counted
+mod Family
+mod LeftOut
+mod Letters
+mod Shown
+mod Sizes

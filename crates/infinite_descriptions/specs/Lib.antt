@@ -1,0 +1,10 @@
+pub mod Head
+pub mod Lists
+pub mod Heaps
+pub mod Regions
+pub mod Tables
+pub mod Families
+pub mod Plain
+pub mod Latex
+pub mod Json
+pub mod Described

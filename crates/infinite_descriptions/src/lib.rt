@@ -1,0 +1,20 @@
+//! What a certificate of an infinite quotient says, in a text for readers, for LaTeX and as JSON.
+#![tactic(auto)]
+
+mod counts;
+mod describing;
+mod families;
+mod head;
+mod heaps;
+mod json;
+mod latex;
+mod lists;
+mod outcomes;
+mod places;
+mod plain;
+mod regions;
+mod sums;
+mod tables;
+
+pub use describing::{Output, described};
+pub use head::{quotient_text, yes_text};
