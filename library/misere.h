@@ -242,6 +242,11 @@ uint32_t misere_infinite_outcomes(misere_infinite *opened, const uint64_t *heaps
 uint32_t misere_infinite_answers(misere_infinite *opened, const uint64_t *heaps, size_t count,
                                  const uint64_t *ends, size_t positions, misere_move *told, size_t room);
 
+/* Writes the description of what is opened, plain, for LaTeX or in JSON (MISERE_DESCRIPTION,
+ * MISERE_LATEX, MISERE_JSON), and to *count how many bytes it has; with MISERE_NO_ROOM *count alone. */
+uint32_t misere_infinite_describe(misere_infinite *opened, uint32_t output, uint8_t *told, size_t room,
+                                  uint64_t *count);
+
 #ifdef __cplusplus
 }
 #endif

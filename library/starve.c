@@ -136,6 +136,9 @@ static uint32_t infinite_answer(void) {
 }
 static uint32_t infinite_outcomes(void) { return misere_infinite_outcomes(&infinite, heaps, 12, ends, 2, told.numbers, 2); }
 static uint32_t infinite_answers(void) { return misere_infinite_answers(&infinite, heaps, 12, ends, 2, told.moves, 2); }
+static uint32_t infinite_describe(void) {
+    return misere_infinite_describe(&infinite, MISERE_LATEX, told.text, sizeof told.text, &told.count);
+}
 
 static const struct {
     const char *name;
@@ -172,6 +175,7 @@ static const struct {
     {"infinite_answer", infinite_answer, 0},
     {"infinite_outcomes", infinite_outcomes, 0},
     {"infinite_answers", infinite_answers, 1},
+    {"infinite_describe", infinite_describe, 1},
 };
 #define CALLS (sizeof calls_of / sizeof *calls_of)
 

@@ -1,6 +1,7 @@
 //! What is accepted, and what is opened and closed.
 use crate::texts::{LIMIT, NOTHING, RIGHT, SHORT, WRONG};
 use infinite_queries::{check, close, failure, open, outcome, share};
+use infinite_texts::describe;
 use opened_infinite::OpenedInfinite;
 
 #[test]
@@ -54,4 +55,25 @@ fn infinite_owners_are_made_and_closed(rt: HostRuntime) {
     assert_eq!(&rt; outcome(alloc, &mut other, &[1], &mut told), 0);
     assert_eq!(&rt; told, 0);
     assert_eq!(&rt; close(alloc, &mut other), 0);
+}
+
+#[test]
+fn infinite_quotients_are_described(rt: HostRuntime) {
+    let (alloc, mut told, mut count) = (rt.alloc(), [7; 4096], 9);
+    let mut one = OpenedInfinite::closed(alloc);
+    assert_eq!(&rt; describe(alloc, &mut one, 0, &mut told, &mut count), 17);
+    assert_eq!(&rt; open(alloc, RIGHT, LIMIT, &mut one), 0);
+    for (output, wanted) in [(0, 0), (1, 0), (2, 15), (3, 0), (4, 15)] {
+        assert_eq!(&rt;
+            describe(alloc, &mut one, output, &mut told, &mut count),
+            wanted,
+            "{output}"
+        );
+    }
+    assert_eq!(&rt; told[0], 123);
+    assert_eq!(&rt;
+        describe(alloc, &mut one, 0, &mut told[..9], &mut count),
+        14
+    );
+    assert_eq!(&rt; close(alloc, &mut one), 0);
 }

@@ -4,10 +4,12 @@ ghost use Rattle.std.specs.Prelude.{◌≡◌, ◌≢◌, ◌≤◌, ◌<◌, �
 ghost use Rattle.std.specs.declared.option.Option.TheVariants.{None, Some};
 ghost use Rattle.infinite_queries.specs.Asked.{AreNoAnswers, AreRefused, AreShown, FailsAt, IsNoAnswer, IsNoAnswerToMany, IsOpened, IsUnopened, IsUnshared, TellsAnswer, TellsOutcome};
 ghost use Rattle.infinite_queries.specs.Many.{TellAll};
+ghost use Rattle.infinite_texts.specs.Described.{IsOpenedText, IsOpenedUntold};
 
 use infinite_queries::{
     MisereAnswer, answer, answers, check, close, failure, open, outcome, outcomes, share,
 };
+use infinite_texts::describe;
 use opened_infinite::OpenedInfinite;
 use std::alloc::Global;
 
@@ -156,4 +158,27 @@ pub extern "C" fn misere_infinite_answers(
     ensures stays { result ≢ 0 → told.new ≡ told.old }
 {
     answers(alloc, opened, heaps, ends, told)
+}
+
+/// Describes what is opened: `output` is 0 for lines for readers, 1 for LaTeX and 3 for JSON. Tells the
+/// text, and how many bytes it has; where there is no room for them, how many they are alone.
+#[unsafe(no_mangle)]
+pub extern "C" fn misere_infinite_describe(
+    alloc: Global,
+    opened: &mut OpenedInfinite,
+    output: u32,
+    told: &mut [u8],
+    count: &mut u64,
+) -> u32
+    ensures described { result ≡ 0
+        → IsOpenedText opened.old.handle.value output (take count.new told.new) }
+    ensures no { result ≢ 0 → result ≢ 14 → IsOpenedUntold opened.old.handle.value output result }
+    ensures same { opened.new.handle.value ≡ opened.old.handle.value }
+    ensures stays { result ≢ 0 → told.new ≡ told.old }
+    ensures room { result ≡ 14 → length told.old < count.new }
+    ensures counts { result ≡ 14 → (text : List ℕ)
+        × IsOpenedText opened.old.handle.value output text × (count.new ≡ length text) }
+    ensures untold { result ≢ 0 → result ≢ 14 → count.new ≡ count.old }
+{
+    describe(alloc, opened, output, told, count)
 }

@@ -1,0 +1,106 @@
+//! The description of an infinite quotient that was opened.
+ghost use Rattle.std.specs.Prelude.{◌≡◌, ◌≢◌, ◌<◌, ◌≤◌, ◌⊎◌, ℕ, List, None, IfSome, IfOk, IfErr, length, take};
+ghost use Rattle.infinite_texts.specs.Described.{IsOpenedText, IsOpenedUntold, IsOutput, IsTextFor, IsUntoldOf};
+
+use infinite_answers::Infinite;
+use infinite_descriptions::{Output, described};
+use opened_infinite::OpenedInfinite;
+use std::alloc::Global;
+
+/// What was asked for is told.
+const DONE: u32 = 0;
+
+/// A growth was refused.
+const MEMORY: u32 = 9;
+
+/// There is no room for what would be told.
+const NO_ROOM: u32 = 14;
+
+/// There is no such output.
+const NOT_IN_RANGE: u32 = 15;
+
+/// Nothing is opened.
+const NOT_OPEN: u32 = 17;
+
+/// The output of this number.
+fn output_at(output: u32) -> Option<Output>
+    ensures some { IfSome result (IsOutput output) }
+    ensures none { result ≡ None → (output ≡ 2) ⊎ (4 ≤ output) }
+{
+    match output {
+        0 => Some(Output::Plain),
+        1 => Some(Output::Latex),
+        3 => Some(Output::Json),
+        _ => None,
+    }
+}
+
+/// The text that is asked for of the quotient; or the status.
+fn text_in(alloc: Global, shown: &Infinite, output: u32) -> Result<Vec<u8>, u32>
+    ensures told { IfOk result (λ t. IsTextFor output shown.now t.items) }
+    ensures no { IfErr result (λ s. s ≢ 0 × s ≢ 14) }
+    ensures why { IfErr result (IsUntoldOf output) }
+{
+    let Some(output) = output_at(output) else {
+        return Err(NOT_IN_RANGE);
+    };
+    match described(alloc, shown, output) {
+        Ok(text) => Ok(text),
+        Err(_) => Err(MEMORY),
+    }
+}
+
+/// The text that is asked for of what is opened; or the status.
+fn text_by(alloc: Global, opened: &mut OpenedInfinite, output: u32) -> Result<Vec<u8>, u32>
+    ensures told { IfOk result (λ t. IsOpenedText opened.old.handle.value output t.items) }
+    ensures no { IfErr result (λ s. s ≢ 0 × s ≢ 14) }
+    ensures why { IfErr result (IsOpenedUntold opened.old.handle.value output) }
+    ensures same { opened.new.handle.value ≡ opened.old.handle.value }
+{
+    let Some(quotient) = opened.take(alloc) else {
+        return Err(NOT_OPEN);
+    };
+    let text = text_in(alloc, quotient.shown(), output);
+    opened.put(alloc, quotient);
+    text
+}
+
+/// Tells how many bytes there are, and puts them in front, where there is room for them.
+fn hand_over(bytes: &[u8], told: &mut [u8], count: &mut u64) -> u32
+    ensures put { result ≡ 0 → take count.new told.new ≡ bytes.now }
+    ensures stays { result ≢ 0 → told.new ≡ told.old }
+    ensures room { result ≢ 0 → (result ≡ 14) × (length told.old < count.new) }
+    ensures counted { count.new ≡ length bytes.now }
+{
+    *count = bytes.len() as u64;
+    if bytes.len() > told.len() {
+        return NO_ROOM;
+    }
+    told[..bytes.len()].copy_from_slice(bytes);
+    DONE
+}
+
+/// Describes what is opened: `output` is 0 for lines for readers, 1 for LaTeX and 3 for JSON. Tells the
+/// text, and how many bytes it has; where there is no room for them, how many they are alone.
+pub fn describe(
+    alloc: Global,
+    opened: &mut OpenedInfinite,
+    output: u32,
+    told: &mut [u8],
+    count: &mut u64,
+) -> u32
+    ensures described { result ≡ 0
+        → IsOpenedText opened.old.handle.value output (take count.new told.new) }
+    ensures no { result ≢ 0 → result ≢ 14 → IsOpenedUntold opened.old.handle.value output result }
+    ensures same { opened.new.handle.value ≡ opened.old.handle.value }
+    ensures stays { result ≢ 0 → told.new ≡ told.old }
+    ensures room { result ≡ 14 → length told.old < count.new }
+    ensures counts { result ≡ 14 → (text : List ℕ)
+        × IsOpenedText opened.old.handle.value output text × (count.new ≡ length text) }
+    ensures untold { result ≢ 0 → result ≢ 14 → count.new ≡ count.old }
+{
+    match text_by(alloc, opened, output) {
+        Ok(text) => hand_over(&text, told, count),
+        Err(status) => status,
+    }
+}
