@@ -45,7 +45,7 @@ from ._faults import (
     WrongType,
 )
 from ._finder import check, check_infinite, solve, solve_furthest, solve_part
-from ._infinite import InfiniteQuotient
+from ._infinite import InfiniteOutput, InfiniteQuotient
 from ._library import version
 from ._quotient import Output, Quotient
 from ._version import VERSION as __version__
@@ -59,6 +59,7 @@ __all__ = [
     "Catalogue",
     "Given",
     "InfiniteCatalogue",
+    "InfiniteOutput",
     "InfiniteQuotient",
     "MisereError",
     "Move",

@@ -12,10 +12,12 @@ from ._bounds import MOST_BYTES
 from ._certified import Certified
 from ._faults import NOT_IN_RANGE, NOT_OPEN, TEXT, Refused, WrongType, fault
 from ._given import NOWHERE, Rows, heaps_of, is_array, number_of, refusal_of, rows_of, words_of
-from ._library import Call, Told
+from ._library import Call, Told, text_by
 
 #: A certificate: its bytes, their text, or the path of its file.
 Given = Union[bytes, str, "os.PathLike[str]"]
+# As many bytes are room for most descriptions
+USUAL_TEXT = 1 << 16
 # Which call checks a text that begins so
 CHECKS: Final = {b"mqc ": "check", b"mqi ": "check_infinite"}
 Self = TypeVar("Self", bound="Asked")
@@ -151,6 +153,11 @@ class Asked:
             raise refusal_of(status, rows.heaps, self.last_heap, self._left_out, rows.ends)
         return told
 
+    def _text(self, *words: int) -> str:
+        """The text that the library describes it by, of an output and what else is asked."""
+        with self._certified.lent() as owner:
+            return text_by(USUAL_TEXT, self._certified.describe, *owner.words, *words).decode("utf-8")
+
     def _stay_open(self) -> None:
         if self.closed:
             raise fault(NOT_OPEN)
@@ -175,6 +182,14 @@ class Asked:
 
     def __deepcopy__(self: Self, _: object) -> Self:
         return self.__copy__()
+
+
+def number_of_output(output: str, outputs: Sequence[str | None]) -> int:
+    """The library's number of an output."""
+    if output is None or output not in outputs:
+        names = ", ".join(it for it in outputs if it is not None)
+        raise fault(NOT_IN_RANGE, f"an output is one of {names}, and {output!r} is none")
+    return outputs.index(output)
 
 
 def _bytes_of(certificate: Given) -> bytes:

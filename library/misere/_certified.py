@@ -62,6 +62,7 @@ class Certified:
     outcomes: Call
     answer: Call
     answers: Call
+    describe: Call
     meanings: dict[int, str] = {}
 
     def __init__(self, first: Owner) -> None:
@@ -166,6 +167,7 @@ class Infinite(Certified):
     open, share, failure = library.misere_infinite_open, library.misere_infinite_share, library.misere_infinite_failure
     outcome, outcomes = library.misere_infinite_outcome, library.misere_infinite_outcomes
     answer, answers = library.misere_infinite_answer, library.misere_infinite_answers
+    describe = library.misere_infinite_describe
     meanings = {LIMIT_MET: "more pairs, places, points or changes than the check takes"}
 
 

@@ -2,10 +2,18 @@
 
 from __future__ import annotations
 
+import json
+from typing import Any, Literal, Optional
+
 from . import _certificate
-from ._asked import Asked, Given
+from ._asked import Asked, Given, number_of_output
 from ._bounds import LIMIT
 from ._certified import Infinite
+
+#: What is told of an infinite quotient.
+InfiniteOutput = Literal["description", "latex", "json"]
+# By the library's numbers, which are those of the outputs of a finite quotient
+OUTPUTS: tuple[Optional[InfiniteOutput], ...] = ("description", "latex", None, "json")
 
 
 class InfiniteQuotient(Asked):
@@ -36,6 +44,16 @@ class InfiniteQuotient(Asked):
     @property
     def _left_out(self) -> tuple[int, ...]:
         return self.without
+
+    def describe(self, output: InfiniteOutput = "description") -> str:
+        """Its monoid, tracks and regions, and the positions that show that the quotient is infinite, with their outcomes:
+        what `misere infinite --show` prints. `output` is "description", "latex" or "json"."""
+        return self._text(number_of_output(output, OUTPUTS))
+
+    def to_dict(self) -> dict[str, Any]:
+        """The same as a dict of values that JSON has."""
+        told: dict[str, Any] = json.loads(self.describe("json"))
+        return told
 
     def __repr__(self) -> str:
         without = f" without {' '.join(map(str, self.without))}" if self.without else ""

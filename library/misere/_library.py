@@ -63,6 +63,7 @@ CALLS: dict[str, list[Any]] = {
     "misere_infinite_answer": [_owner, _slice, _size, _move],
     "misere_infinite_outcomes": [_owner, _slice, _size, _slice, _size, _slice, _size],
     "misere_infinite_answers": [_owner, _slice, _size, _slice, _size, _slice, _size],
+    "misere_infinite_describe": [_owner, _number, _slice, _size, _count],
 }
 
 Call = Callable[..., int]

@@ -10,18 +10,15 @@ from typing import Any, Literal, get_args, overload
 
 from . import _certificate, _shown
 from ._answers import array_of
-from ._asked import Asked, Given
+from ._asked import Asked, Given, number_of_output
 from ._bounds import LARGEST_HEAP, LIMIT
 from ._certified import Finite
-from ._faults import BEYOND, NOT_A_HEAP, NOT_IN_RANGE, NotDescribed, NotOpen, WrongType, fault
+from ._faults import BEYOND, NOT_A_HEAP, NotDescribed, NotOpen, WrongType
 from ._given import is_array, no_heap, refusal_of, rows_of
-from ._library import text_by
 
 #: What is told of a quotient. The library numbers them in this order.
 Output = Literal["description", "latex", "relations", "json", "singular", "gap"]
 OUTPUTS: tuple[Output, ...] = get_args(Output)
-# As many bytes are room for most descriptions
-USUAL_TEXT = 1 << 16
 
 
 class Quotient(Asked):
@@ -107,11 +104,7 @@ class Quotient(Asked):
         `output` is "description", "latex", "relations" (one word), "json", "singular" or "gap": what `misere describe`
         prints, without and with one of these words. With `basis` the relations are the reduced Gröbner basis.
         """
-        if output not in OUTPUTS:
-            raise fault(NOT_IN_RANGE, f"an output is one of {', '.join(OUTPUTS)}, and {output!r} is none")
-        words = OUTPUTS.index(output), int(bool(basis))
-        with self._certified.lent() as owner:
-            return text_by(USUAL_TEXT, self._certified.describe, *owner.words, *words).decode("utf-8")
+        return self._text(number_of_output(output, OUTPUTS), int(bool(basis)))
 
     def to_dict(self, basis: bool = False) -> dict[str, Any]:
         """The description that `misere describe --json` prints, as a dict: numbers, words such as "ab^2", lists of them,

@@ -4,6 +4,7 @@ from __future__ import annotations
 
 import copy
 import itertools
+import json
 import pathlib
 import pickle
 import random
@@ -11,7 +12,7 @@ import tempfile
 import threading
 import unittest
 from collections.abc import Callable
-from typing import NamedTuple
+from typing import Any, NamedTuple, get_args
 
 import misere
 from compare import search_of
@@ -72,6 +73,17 @@ class Infinite(unittest.TestCase):
             expected = "P" if k <= j and (j - k) % 2 == 0 else "N"
             self.assertEqual(of.outcome([25] + [30] * j + [34] * k), expected, (j, k))
 
+    def test_it_is_described(self) -> None:
+        texts = [self.of.describe(it) for it in get_args(misere.InfiniteOutput)]
+        self.assertEqual((len(set(texts)), texts[0]), (3, self.of.describe()))
+        told = self.of.to_dict()
+        self.assertEqual(told, json.loads(texts[2]))
+        self.assertEqual((told["code"], told["last"], told["order"]), ("0.354", 5, 12))
+        self.assertEqual((told["base"], told["up"], told["down"]), ([2, 4, 5], [5] * 6, [2, 2]))
+        self.assertEqual(told["elements"], [1, 2, 3, 4, 3])
+        part = infinite("0.07_heaps_34_without_33").to_dict()
+        self.assertEqual((part["last"], part["elements"][32]), (34, None))
+
     def test_it_is_a_value(self) -> None:
         again = infinite("0.354_heaps_5")
         self.assertEqual(({self.of, again}, self.of == quotient("0.33")), ({self.of}, False))
@@ -85,6 +97,7 @@ class Infinite(unittest.TestCase):
         calls: list[Callable[[], object]] = [
             lambda: it.outcome([1]),
             lambda: it.answers([[1]]),
+            it.describe,
             lambda: copy.copy(it),
         ]
         for call in calls:
@@ -114,6 +127,11 @@ class Row(NamedTuple):
     words: str
 
 
+def wrong(given: Any) -> Any:
+    """What is given of a type that the declarations don't allow."""
+    return given
+
+
 def refused(name: str) -> Callable[[], object]:
     return lambda: misere.check_infinite(samples / f"refused/{name}.mqi")
 
@@ -131,6 +149,8 @@ ROWS = [
         23,
         "speaks of heaps to 34 without 33 alone, and not of 33",
     ),
+    Row("no output", lambda: OF.describe(wrong("relations")), misere.NotInRange, 15, "description, latex, json, and"),
+    Row("nothing for an output", lambda: OF.describe(wrong(None)), misere.NotInRange, 15, "None is none"),
     Row("no text", lambda: misere.check_infinite(b""), misere.Refused, 1, "the bytes spell no certificate"),
     Row(
         "one of a finite quotient",

@@ -4,9 +4,21 @@ use crate::answers::{Answer, Outcome};
 use crate::bounds::LIMIT;
 use crate::certificate::{Part, read_part};
 use crate::opened::{Infinite, Opened};
+use crate::quotient::{USUAL, told_by};
 use crate::refusal::Refusal;
 use std::fmt;
 use std::sync::Arc;
+
+/// What is told of an infinite quotient. The numbers are those of the outputs of a finite one.
+#[derive(Clone, Copy, Debug, PartialEq, Eq)]
+pub enum InfiniteOutput {
+    /// Lines for readers.
+    Description = 0,
+    /// The same for pdfLaTeX.
+    Latex = 1,
+    /// The same as one object of JSON, in one line.
+    Json = 3,
+}
 
 /// A certified infinite misère quotient: the outcomes of all positions of some heaps of a game, which no finite quotient predicts. It is
 /// made by a check alone, and doesn't change.
@@ -53,6 +65,12 @@ impl InfiniteQuotient {
     /// The heaps below the last one of which it doesn't speak, rising.
     pub fn without(&self) -> &[u64] {
         &self.part.without
+    }
+
+    /// Its monoid, tracks and regions, and the positions that show that the quotient is infinite, with their outcomes.
+    pub fn describe(&self, output: InfiniteOutput) -> Result<String, Refusal> {
+        let text = told_by(USUAL, |told, count| self.opened.describe(output as u32, told, count))?;
+        Ok(String::from_utf8_lossy(&text).into_owned())
     }
 
     /// Who wins the position.

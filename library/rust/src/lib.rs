@@ -34,7 +34,7 @@ mod refusal;
 pub use answers::{Answer, Outcome};
 pub use bounds::LIMIT;
 pub use finding::{Aim, Bounds, NotFound};
-pub use infinite::InfiniteQuotient;
+pub use infinite::{InfiniteOutput, InfiniteQuotient};
 pub use quotient::{Output, Quotient};
 pub use refusal::Refusal;
 

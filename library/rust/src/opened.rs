@@ -142,6 +142,13 @@ impl Opened<Finite> {
     }
 }
 
+impl Opened<Infinite> {
+    pub fn describe(&self, output: u32, told: &mut [u8], count: &mut u64) -> u32 {
+        // SAFETY: the pointer stands with the length of its slice, and the rest is borrowed for the call.
+        unsafe { raw::misere_infinite_describe(self.alone(), output, told.as_mut_ptr(), told.len(), count) }
+    }
+}
+
 /// Where each of the positions ends, if they stand one after another.
 fn ends_of(positions: &[&[u64]]) -> Vec<u64> {
     let ends = positions.iter().scan(0, |end, heaps| {

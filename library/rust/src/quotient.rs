@@ -11,7 +11,7 @@ use std::fmt;
 use std::sync::Arc;
 
 /// As many bytes are room for most descriptions.
-const USUAL: usize = 1 << 16;
+pub(crate) const USUAL: usize = 1 << 16;
 
 /// What is told of a quotient: what `misere describe` prints, without and with the word of this name. The library numbers them in this
 /// order.
@@ -204,7 +204,7 @@ fn status_and_told(mut room: usize, call: impl Fn(&mut [u8], &mut u64) -> u32) -
 }
 
 /// What a call tells that takes a room for it.
-fn told_by(room: usize, call: impl Fn(&mut [u8], &mut u64) -> u32) -> Result<Vec<u8>, Refusal> {
+pub(crate) fn told_by(room: usize, call: impl Fn(&mut [u8], &mut u64) -> u32) -> Result<Vec<u8>, Refusal> {
     let (status, told) = status_and_told(room, call);
     done(status, told)
 }

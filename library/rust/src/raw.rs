@@ -150,6 +150,7 @@ unsafe extern "C" {
         told: *mut u32,
         room: usize,
     ) -> u32;
+    pub fn misere_infinite_describe(opened: &mut Opened, output: u32, told: *mut u8, room: usize, count: &mut u64) -> u32;
     pub fn misere_infinite_answers(
         opened: &mut Opened,
         heaps: *const u64,

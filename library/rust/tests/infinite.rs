@@ -1,6 +1,6 @@
 //! What the crate tells of samples of infinite quotients, beside the families of docs/INFINITE.md.
 
-use misere::{Answer, InfiniteQuotient, LIMIT, Outcome, Quotient, Refusal};
+use misere::{Answer, InfiniteOutput, InfiniteQuotient, LIMIT, Outcome, Quotient, Refusal};
 use std::path::Path;
 use std::thread;
 
@@ -59,6 +59,14 @@ fn many_are_told_as_one_by_one() {
     for (heaps, answer) in positions.iter().zip(answers) {
         assert_eq!(quotient.answer(heaps), Ok(answer));
     }
+}
+
+#[test]
+fn each_output_is_a_text_of_its_own() {
+    let quotient = infinite("0.354_heaps_5.mqi");
+    let told = |output| quotient.describe(output).unwrap();
+    assert!(told(InfiniteOutput::Json).starts_with("{\"code\":\"0.354\",\"last\":5,\"order\":12,\"elements\":[1,2,3,4,3],"));
+    assert_ne!(told(InfiniteOutput::Description), told(InfiniteOutput::Latex));
 }
 
 #[test]
