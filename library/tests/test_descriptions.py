@@ -116,7 +116,7 @@ class Descriptions(unittest.TestCase):
         begin = {
             "description": "Q(0.75) = < a,b,c | a^2=1, bc=ab, c^2=b^2 >\n",
             "latex": "\\begin{flushleft}\n$\\mathcal{Q}(\\mathbf{0.75})",
-            "relations": "a^2=1 ",
+            "relations": "a^2=1 bc=ab c^2=b^2 b^3=b c^4=c^2",
             "json": '{"code":"0.75","kind":"full",',
             "singular": "// Q(0.75), of order 8: vdim(std(I))\nring R = 0,(c,b,a),dp;\nideal I =\n  a^2-1,\n  b*c-a*b,\n",
             "gap": '# Q(0.75), of order 8: ReducedGroebnerBasis(I, O)\nc := Indeterminate(Rationals, "c" : new);;\n',

@@ -177,8 +177,7 @@ ROWS = [
         "limit met", lambda: misere.check_infinite(OF.certificate, 1), misere.Refused, 8, "8 Limit: more pairs, places"
     ),
     Row("a ray that is none", refused("ray_down_too_short"), misere.Refused, 34, "34 Ray: the claim is right"),
-    Row("a wrong outcome", refused("outcome_at_two_elevens"), misere.Refused, 7, "fails at a position: [11, 11]"),
-    Row("another wrong one", refused("outcome_at_two_and_three"), misere.Refused, 7, "fails at a position: [2, 3]"),
+    Row("a wrong outcome", refused("outcome_at_two_and_three"), misere.Refused, 7, "fails at a position: [2, 3]"),
     Row("no entry", lambda: misere.InfiniteCatalogue()["0.33"], misere.Absent, 0, "no entry of '0.33'"),
 ]
 
