@@ -10,7 +10,8 @@ use Rattle.infinite_answers.specs.Answers.{IsTrueOf, Why, Text, Law, Order, Outc
 use Rattle.infinite_answers.specs.Kept.{Kept}
 use Rattle.infinite_command.specs.Checks.{ChecksInfinite, FindsInfinite, JudgesInfinite, TellsFound}
 use Rattle.infinite_command.specs.Shown.{ShowsFound, ShowsInfinite}
-use Rattle.infinite_command.specs.Told.{IsRefusalText, Tells, infinite_line}
+use Rattle.infinite_command.specs.Told.{IsRefusalText, Tells}
+use Rattle.infinite_descriptions.specs.Head.{infinite_line}
 use Rattle.infinite_command.specs.Told.Tells.{Yes, No}
 
 -- long bytes spell nothing
@@ -73,12 +74,12 @@ checks_found Are (Err said) text succeeds (bytes, are, told) (same, ill) = (
       (subst (λ t. Tells bytes t false) (sym same) told),
 )
 
--- the lines of what is found are those of the bytes
+-- what is shown of what is found is shown of the bytes
 pub shows_found : {A : Type 0} (Are : List ℕ → Type 0) (q : Result Kept (Vec ℕ A)) (text : List ℕ)
     (succeeds : Bool) → FindsInfinite Are q → ShowsFound q text succeeds
     → ShowsInfinite Are text succeeds
-shows_found Are (Ok k) text succeeds found (line, well) =
-    subst (λ b. ShowsInfinite Are text b) (sym well) (k, found, line)
+shows_found Are (Ok k) text succeeds found (described, well) =
+    subst (λ b. ShowsInfinite Are text b) (sym well) (k, found, described)
 shows_found Are (Err said) text succeeds (bytes, are, told) (same, ill) =
     subst (λ b. ShowsInfinite Are text b) (sym ill)
     (bytes, are, subst (λ t. Tells bytes t false) (sym same) told)

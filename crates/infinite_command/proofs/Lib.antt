@@ -1,5 +1,3 @@
-mod LeftOut
 mod Given
 mod Found
 mod Answered
-mod Sizes

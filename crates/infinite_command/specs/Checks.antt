@@ -5,7 +5,8 @@ use Rattle.tracked_text.specs.Said.{Said}
 use Rattle.tracked_text.specs.Spelling.{Spells}
 use Rattle.infinite_answers.specs.Kept.{Kept, IsKeptOf}
 use Rattle.infinite_answers.specs.Shown.{IsShown}
-use Rattle.infinite_command.specs.Told.{Tells, infinite_line}
+use Rattle.infinite_descriptions.specs.Head.{infinite_line}
+use Rattle.infinite_command.specs.Told.{Tells}
 
 -- the text of a true answer to the bytes that are given, and whether that is a yes
 abbrev pub ChecksInfinite : (List ℕ → Type 0) → List ℕ → Bool → Type 0

@@ -1,32 +1,15 @@
 -- What is said of a certificate with tracks: the text that is printed, and whether that is a yes. This
 -- project's own.
-use Rattle.std.specs.Prelude.{◌≡◌, ◌++◌, ℕ, Bool, true, false, List, [], ◌∷◌, codes, decimal, is_some, length, map}
-use Rattle.octal_code.specs.Text.{code_text}
-use Rattle.certificate_text.specs.Spelling.{spaced}
-use Rattle.tracked_text.specs.Said.{Said, numbered}
+use Rattle.std.specs.Prelude.{◌≡◌, ℕ, Bool, true, false, List, codes, is_some, map}
+use Rattle.tracked_text.specs.Said.{Said}
 use Rattle.tracked_text.specs.Spelling.{Spells}
 use Rattle.answers.specs.ByteVerdicts.ByteVerdict.{Outcome as Refuted}
 use Rattle.infinite_answers.specs.Answers.{IsTrueOf, Why, Text, Law, Order, Outcome, Limit, Memory, Part, Idle, Undecided, Ray}
 use Rattle.infinite_answers.specs.Shown.{IsShown}
+use Rattle.infinite_descriptions.specs.Head.{infinite_line}
 use Rattle.verdict_texts.specs.Lines.{IsTextOf, no_line}
 
 -- ---- a yes
-
--- The heaps that are left out, rising, where of the heaps 1, 2, .. it is said whether each has an element.
-abbrev pub left_out : List Bool → List ℕ
-left_out heaps = map (λ heap. heap.0) (numbered (λ is_spoken_of. is_spoken_of) 1 heaps)
-
--- that they are, if any is
-abbrev pub without : List ℕ → List ℕ
-without [] = []
-without (heap ∷ heaps) = codes " without" ++ spaced (map decimal (heap ∷ heaps))
-
--- the code, the last heap, and the heaps that are left out
-abbrev pub infinite_line : List ℕ → List Bool → List ℕ
-infinite_line code heaps =
-    codes "infinite " ++ code_text code ++ codes " heaps " ++ decimal (length heaps)
-    ++ without (left_out heaps)
-    ++ codes "\n"
 
 -- the line of a certificate that is right
 abbrev pub yes_line : Said → List ℕ

@@ -3,16 +3,18 @@ ghost use Rattle.std.specs.Prelude.{◌≡◌, false, true, IfOk, IfErr, is_none
 ghost use Rattle.std.specs.String.{string_bytes};
 ghost use Rattle.check_command.specs.Checks.{AreGiven, IsGivenCause, failed};
 ghost use Rattle.infinite_answers.specs.Refusals.{refused};
-ghost use Rattle.infinite_command.specs.Told.{IsRefusalText, infinite_line};
+ghost use Rattle.infinite_command.specs.Told.{IsRefusalText};
+ghost use Rattle.infinite_descriptions.specs.Head.{infinite_line};
 ghost use Rattle.infinite_command.specs.Checks.{ChecksInfinite, FindsInfinite, JudgesInfinite, TellsFound};
 
-use crate::lines::{refusal_text, yes_text};
+use crate::lines::refusal_text;
 use allocation::Memory;
 use check_command::given_bytes;
 use command_results::{Said, Stop};
 use folders::Folder;
 use infinite_answers::Infinite;
 use infinite_checker::check_infinite;
+use infinite_descriptions::yes_text;
 use std::alloc::Global;
 use streams::Source;
 

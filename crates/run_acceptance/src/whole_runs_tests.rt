@@ -31,6 +31,25 @@ fn run_line<S: Source, W: Sink>(
     }
 }
 
+/// What is shown of the infinite quotient of 0.354 to heap 5.
+const SHOWN_0_354: &str =
+    "infinite 0.354 heaps 5\norder 12 tracks 1\nbase 2 4 5\nup 5 5 5 5 5 5\ndown 2 2\n\
+heap 1 element 1 counts (0,0)\nheap 2 element 2 counts (3,0)\n\
+heap 3 element 3 counts (4,0)\nheap 4 element 4 counts (2,0)\n\
+heap 5 element 3 counts (0,1)\ntrack 1 from (0,0) step 1 top (8,6) modulus 6\n\
+row 0 1 2 3 4 5 6 7 8 9 10 11\nrow 1 0 5 4 3 2 7 6 9 8 11 10\n\
+row 2 5 2 6 7 5 6 7 10 11 10 11\nrow 3 4 6 8 9 7 10 11 8 9 10 11\n\
+row 4 3 7 9 8 6 11 10 9 8 11 10\nrow 5 2 5 7 6 2 7 6 11 10 11 10\n\
+row 6 7 6 10 11 7 10 11 10 11 10 11\nrow 7 6 7 11 10 6 11 10 11 10 11 10\n\
+row 8 9 10 8 9 11 10 11 8 9 10 11\nrow 9 8 11 9 8 10 11 10 9 8 11 10\n\
+row 10 11 10 10 11 11 10 11 10 11 10 11\nrow 11 10 11 11 10 10 11 10 11 10 11 10\n\
+P 1 at (0,0)\nP 2 at (6,0)\nP 3 at (0,1) (4,0)\nP 6 at (4,0)\nP 7 at (5,0)\n\
+P 8 at (0,1) (0,3) (2,0) (4,0) (6,0) (8,0)\nP 9 at (0,2)\n\
+P 10 at (0,1) (0,3) (4,0) (6,0) (8,0)\nP 11 at (0,2)\n\
+family 2 + 4 + 5 + j (6*5) + k (2*2)\nj=0 N N N N N N N N\nj=1 P N N N N N N N\n\
+j=2 P P N N N N N N\nj=3 P P P N N N N N\nj=4 P P P P N N N N\nj=5 P P P P P N N N\n\
+j=6 P P P P P P N N\nj=7 P P P P P P P N\n";
+
 /// The words, the call of the folder that fails, the status, and what is printed and told.
 struct Run(&'static str, u64, u8, &'static str, &'static str);
 
@@ -88,13 +107,7 @@ static ROWS: [Run; 83] = [
     Run("check|0.354.mqi", 2, 1, "no 1 Text\n", ""),
     Run("infinite|0.3.mqc", 2, 1, "no 1 Text\n", ""),
     Run("infinite|0.354.mqi", 2, 0, "infinite 0.354 heaps 5\n", ""),
-    Run(
-        "infinite|0.354.mqi|--show",
-        2,
-        0,
-        "infinite 0.354 heaps 5\norder 12 tracks 1\nbase 2 4 5\nup 5 5 5 5 5 5\ndown 2 2\n",
-        "",
-    ),
+    Run("infinite|0.354.mqi|--show", 2, 0, SHOWN_0_354, ""),
     Run(
         "infinite|0.354.mqi|4 2 5 5 5 5 5 5 5 5",
         2,
