@@ -47,6 +47,6 @@ HasNumbersWithin (plan.Catalogue file asked limit) =
     TaskHasNumbersWithin asked × IsWithin Limit limit
 HasNumbersWithin (plan.Desk script) = ⊤
 HasNumbersWithin (plan.Infinite file limit) = IsWithin Limit limit
-HasNumbersWithin (plan.ShowInfinite file limit) = IsWithin Limit limit
+HasNumbersWithin (plan.ShowInfinite file layout limit) = IsWithin Limit limit
 HasNumbersWithin (plan.PlayInfinite file position limit) = IsWithin Limit limit
 HasNumbersWithin (plan.PlayInfiniteLines file limit) = IsWithin Limit limit

@@ -74,11 +74,11 @@ catalogue = command (codes "catalogue")
 abbrev pub desk : App
 desk = command (codes "desk") (needed (codes "script") ∷ [])
 
--- infinite FILE [POSITION] [--show] [--limit N]
+-- infinite FILE [POSITION] [--show] [--latex] [--json] [--limit N]
 abbrev pub infinite : App
 infinite = command (codes "infinite")
     (needed (codes "file") ∷ optional (codes "position") ∷ flag (codes "show")
-    ∷ option (codes "limit") ∷ [])
+    ∷ flag (codes "latex") ∷ flag (codes "json") ∷ option (codes "limit") ∷ [])
 
 -- the program's name, which has a version
 abbrev pub misere : App

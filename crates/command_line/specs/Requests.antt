@@ -21,6 +21,8 @@ use Rattle.requests.specs.Requests.Request.{Infinite, ShowInfinite, PlayInfinite
 use Rattle.requests.specs.declared.plans.Aim.{Aim}
 use Rattle.requests.specs.declared.plans.Aim.TheVariants as aim
 use Rattle.requests.specs.declared.plans.SolveBounds.{SolveBounds}
+use Rattle.requests.specs.declared.plans.Layout.{Layout}
+use Rattle.requests.specs.declared.plans.Layout.TheVariants as layout
 use Rattle.requests.specs.declared.plans.Output.{Output}
 use Rattle.requests.specs.declared.plans.Output.TheVariants.{Description, Latex, Json, Relations, Singular, Gap}
 
@@ -237,13 +239,33 @@ abbrev pub infinite_lines_with : Option Text → ℕ → Option Request
 infinite_lines_with None limit = None
 infinite_lines_with (Some file) limit = Some (PlayInfiniteLines file limit)
 
+-- what the flags --show, --latex and --json ask for together: nothing, or that the quotient is shown
+abbrev pub layout_of : (show latex json : Bool) → Option (Option Layout)
+layout_of false false false = Some None
+layout_of true false false = Some (Some layout.Lines)
+layout_of true true false = Some (Some layout.Latex)
+layout_of true false true = Some (Some layout.Json)
+layout_of _ _ _ = None
+
+abbrev pub layout_in : List Row → Option (Option Layout)
+layout_in rows = layout_of (is_set (codes "show") rows) (is_set (codes "latex") rows)
+    (is_set (codes "json") rows)
+
+-- --latex or --json stands without --show, or both stand together
+abbrev pub layout_conflicts : List Row → Bool
+layout_conflicts rows =
+    let latex = is_set (codes "latex") rows in
+    let json = is_set (codes "json") rows in
+    (latex && json) || (not (is_set (codes "show") rows) && (latex || json))
+
 -- without a position the certificate is checked, or its quotient is shown
-abbrev pub infinite_with : Option Text → (show : Bool) → (position : Option Text) → Option ℕ
+abbrev pub infinite_with : Option Text → Option (Option Layout) → (position : Option Text) → Option ℕ
     → Option Request
-infinite_with (Some file) false None (Some limit) = Some (Infinite (named_by (Some file)) limit)
-infinite_with (Some file) true None (Some limit) =
-    Some (ShowInfinite (named_by (Some file)) limit)
-infinite_with (Some file) false (Some position) (Some limit) =
+infinite_with (Some file) (Some None) None (Some limit) =
+    Some (Infinite (named_by (Some file)) limit)
+infinite_with (Some file) (Some (Some layout)) None (Some limit) =
+    Some (ShowInfinite (named_by (Some file)) layout limit)
+infinite_with (Some file) (Some None) (Some position) (Some limit) =
     if bytes_eq position (codes "-")
     then infinite_lines_with (named_by (Some file)) limit
     else Some (PlayInfinite (named_by (Some file)) position limit)
@@ -251,18 +273,21 @@ infinite_with _ _ _ _ = None
 
 abbrev pub infinite_request : List Row → Option Request
 infinite_request rows =
-    infinite_with (first_of (codes "file") rows) (is_set (codes "show") rows)
-    (first_of (codes "position") rows) (number_of Limit rows)
+    infinite_with (first_of (codes "file") rows) (layout_in rows) (first_of (codes "position") rows)
+    (number_of Limit rows)
 
--- --show stands with a position, or the certificate and the positions both stand on standard input
+-- --latex and --json stand as they can't, --show stands with a position, or the certificate and the
+-- positions both stand on standard input
 abbrev pub infinite_conflicts : List Row → Bool
 infinite_conflicts rows =
-    (is_set (codes "show") rows && is_given (codes "position") rows) || play_conflicts rows
+    layout_conflicts rows || (is_set (codes "show") rows && is_given (codes "position") rows)
+    || play_conflicts rows
 
--- by which of the two faults it is told that they do
+-- by which of the three faults it is told that they do
 abbrev pub infinite_exclusion : List Row → Option Exclusion
 infinite_exclusion rows =
-    if is_set (codes "show") rows then Some exclusion.Infinite else Some exclusion.Play
+    if layout_conflicts rows then Some exclusion.Layout
+    else (if is_set (codes "show") rows then Some exclusion.Infinite else Some exclusion.Play)
 
 -- ---- the commands
 

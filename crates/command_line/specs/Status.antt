@@ -36,6 +36,7 @@ exclusion_text exclusion.Description = codes "misere: --latex goes without --rel
 exclusion_text exclusion.Outputs =
     codes "misere: one of --latex, --relations, --json, --singular and --gap\n"
 exclusion_text exclusion.Infinite = codes "misere: --show goes without POSITION\n"
+exclusion_text exclusion.Layout = codes "misere: --latex or --json goes with --show, one of them\n"
 exclusion_text exclusion.Play =
     codes "misere: standard input has the certificate or the positions\n"
 exclusion_text exclusion.Solve =

@@ -1,10 +1,10 @@
 //! What each command asks for with its arguments.
-ghost use Rattle.std.specs.Prelude.{◌≡◌, ◌≢◌, ◌∷◌, [], None, Some, false, true, IfOk, IfErr, ℕ, codes, map, option_map};
+ghost use Rattle.std.specs.Prelude.{◌≡◌, ◌≢◌, ◌∷◌, [], None, Some, false, true, IfOk, IfErr, ℕ, codes, is_some, map, option_map};
 ghost use Rattle.clap.specs.Words.{all_of, first_of};
 ghost use Rattle.command_line.specs.Numbers.{IsWithin, number_of};
 ghost use Rattle.command_line.specs.Plans.{AimsWithin, AreWithin, HasNumbersWithin, TaskHasNumbersWithin};
 ghost use Rattle.command_line.specs.Refusals.{Answers, IsMistake, IsMistakeIn, conflicts_in};
-ghost use Rattle.command_line.specs.Requests.{arguments_of, catalogue, catalogue_conflicts, check, describe, describe_conflicts, desk, infinite, is_set, named_by, output_in, play};
+ghost use Rattle.command_line.specs.Requests.{arguments_of, catalogue, catalogue_conflicts, check, describe, describe_conflicts, desk, infinite, is_set, layout_conflicts, layout_in, named_by, output_in, play};
 ghost use Rattle.command_line.specs.Requests.{aim_in, bounds_in, order_by, order_in, present, request_in, show, solve, solve_conflicts, solve_with, task_in};
 ghost use Rattle.requests.specs.Requests.{catalogue_request_of, request_of};
 ghost use Rattle.requests.specs.Requests.Request.{SolveMany};
@@ -12,7 +12,7 @@ ghost use Rattle.requests.specs.Requests.Request.{SolveMany};
 use crate::faults::{Exclusion, UsageFault};
 use crate::numbers::{Quantity, number_given};
 use clap::ArgMatches;
-use requests::{Aim, CatalogueTask, Output, Plan, SolveBounds};
+use requests::{Aim, CatalogueTask, Layout, Output, Plan, SolveBounds};
 use std::alloc::Global;
 
 /// The value that was given under this name.
@@ -319,22 +319,47 @@ fn desk_plan<'a>(given: &ArgMatches<'a>) -> Result<Plan<'a>, UsageFault>
     Ok(Plan::Desk { script })
 }
 
+/// How an infinite quotient is to be printed, if it is.
+fn layout(given: &ArgMatches<'_>) -> Result<Option<Layout>, UsageFault>
+    ensures layout { IfOk result (λ l. layout_in (arguments_of given.now) ≡ Some l) }
+    ensures apart { IfOk result (λ _. layout_conflicts (arguments_of given.now) ≡ false) }
+    ensures shows { IfOk result (λ l. is_set (codes "show") (arguments_of given.now) ≡ is_some l) }
+    ensures none { IfErr result (λ _. layout_in (arguments_of given.now) ≡ None) }
+    ensures mistake { IfErr result (IsMistake infinite (arguments_of given.now)) }
+{
+    match (
+        flag(given, "show"),
+        flag(given, "latex"),
+        flag(given, "json"),
+    ) {
+        (false, false, false) => Ok(None),
+        (true, false, false) => Ok(Some(Layout::Lines)),
+        (true, true, false) => Ok(Some(Layout::Latex)),
+        (true, false, true) => Ok(Some(Layout::Json)),
+        _ => Err(UsageFault::Exclusive(Exclusion::Layout)),
+    }
+}
+
 fn infinite_plan<'a>(given: &ArgMatches<'a>) -> Result<Plan<'a>, UsageFault>
     ensures { Answers infinite (arguments_of given.now) result }
 {
     let file = named_by(Some(needed(given, "file")?));
     let limit = number(given, Quantity::Limit)?;
-    match (flag(given, "show"), value(given, "position"), file) {
-        (false, None, file) => Ok(Plan::Infinite { file, limit }),
-        (true, None, file) => Ok(Plan::ShowInfinite { file, limit }),
-        (false, Some("-"), Some(file)) => Ok(Plan::PlayInfiniteLines { file, limit }),
-        (false, Some("-"), None) => Err(UsageFault::Exclusive(Exclusion::Play)),
-        (false, Some(position), file) => Ok(Plan::PlayInfinite {
+    match (layout(given)?, value(given, "position"), file) {
+        (None, None, file) => Ok(Plan::Infinite { file, limit }),
+        (Some(layout), None, file) => Ok(Plan::ShowInfinite {
+            file,
+            layout,
+            limit,
+        }),
+        (None, Some("-"), Some(file)) => Ok(Plan::PlayInfiniteLines { file, limit }),
+        (None, Some("-"), None) => Err(UsageFault::Exclusive(Exclusion::Play)),
+        (None, Some(position), file) => Ok(Plan::PlayInfinite {
             file,
             position,
             limit,
         }),
-        (true, Some(_), _) => Err(UsageFault::Exclusive(Exclusion::Infinite)),
+        (Some(_), Some(_), _) => Err(UsageFault::Exclusive(Exclusion::Infinite)),
     }
 }
 

@@ -229,11 +229,17 @@ fn infinite_command<'a>(alloc: Global) -> Result<Command<'a>, AllocError>
     let position =
         "Print a winning move in this position: the sizes of the heaps in one word; as - \
 in that of each line of standard input";
-    let show = "Print how large the quotient is, and the positions that show that it is infinite";
+    let show =
+        "Print the elements and counts of the heaps, where each element is P, and a family of \
+positions with its outcomes";
+    let latex = "With --show: print it for LaTeX";
+    let json = "With --show: print all of it as one object of JSON";
     let made = Ok(command(alloc, "infinite", about));
     let made = with_arg(made, needed(alloc, "file", "FILE", NAMED));
     let made = with_arg(made, optional(alloc, "position", "POSITION", position));
     let made = with_arg(made, flag(alloc, "show", show));
+    let made = with_arg(made, flag(alloc, "latex", latex));
+    let made = with_arg(made, flag(alloc, "json", json));
     with_arg(made, limit(alloc))
 }
 

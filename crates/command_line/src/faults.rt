@@ -16,6 +16,8 @@ pub enum Exclusion {
     Outputs,
     /// `--show` of `infinite` beside a position.
     Infinite,
+    /// `--latex` and `--json` of `infinite`, both of them or without `--show`.
+    Layout,
     /// The certificate and the positions of `play` or `infinite`, both on standard input.
     Play,
     /// The options of `solve` that say how far a search goes.
@@ -69,6 +71,7 @@ fn exclusion_line(exclusion: Exclusion) -> &'static str
             "misere: one of --latex, --relations, --json, --singular and --gap\n"
         }
         Exclusion::Infinite => "misere: --show goes without POSITION\n",
+        Exclusion::Layout => "misere: --latex or --json goes with --show, one of them\n",
         Exclusion::Play => "misere: standard input has the certificate or the positions\n",
         Exclusion::Solve => {
             "misere: one of --heaps, --deep, --partial and --furthest, and --furthest without --order\n"

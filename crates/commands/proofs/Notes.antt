@@ -46,7 +46,7 @@ module _ (input : Option (List ℕ)) (before after : Option (List ℕ → Option
   plainly (Catalogue file task limit) text succeeds h = (h, refl)
   plainly (Desk script) text succeeds h = (h, refl)
   plainly (Infinite file limit) text succeeds h = (h, refl)
-  plainly (ShowInfinite file limit) text succeeds h = (h, refl)
+  plainly (ShowInfinite file layout limit) text succeeds h = (h, refl)
   plainly (PlayInfinite file position limit) text succeeds h = (h, refl)
   plainly (PlayInfiniteLines file limit) text succeeds h = (h, refl)
 
@@ -67,6 +67,6 @@ module _ (input : Option (List ℕ)) (before after : Option (List ℕ → Option
   silent (Catalogue file task limit) text succeeds told e h = h.1
   silent (Desk script) text succeeds told e h = h.1
   silent (Infinite file limit) text succeeds told e h = h.1
-  silent (ShowInfinite file limit) text succeeds told e h = h.1
+  silent (ShowInfinite file layout limit) text succeeds told e h = h.1
   silent (PlayInfinite file position limit) text succeeds told e h = h.1
   silent (PlayInfiniteLines file limit) text succeeds told e h = h.1

@@ -52,7 +52,7 @@ IsCause input (Catalogue file task limit) before after stop =
 IsCause input (Desk script) before after stop = ⊥
 IsCause input (Infinite file limit) before after stop =
     IsGivenCause file (given before) (given after) stop
-IsCause input (ShowInfinite file limit) before after stop =
+IsCause input (ShowInfinite file layout limit) before after stop =
     IsGivenCause file (given before) (given after) stop
 IsCause input (PlayInfinite file position limit) before after stop =
     IsPlayCause file position (given before) (given after) stop
@@ -68,7 +68,7 @@ reads_input (Some (Play file position limit)) = is_none file
 reads_input (Some (PlayLines file limit)) = true
 reads_input (Some (SolveLines bounds)) = true
 reads_input (Some (Infinite file limit)) = is_none file
-reads_input (Some (ShowInfinite file limit)) = is_none file
+reads_input (Some (ShowInfinite file layout limit)) = is_none file
 reads_input (Some (PlayInfinite file position limit)) = is_none file
 reads_input (Some (PlayInfiniteLines file limit)) = true
 reads_input _ = false
@@ -83,7 +83,7 @@ takes_files (Some (PlayLines file limit)) = true
 takes_files (Some (Catalogue file task limit)) = true
 takes_files (Some (Desk script)) = true
 takes_files (Some (Infinite file limit)) = is_some file
-takes_files (Some (ShowInfinite file limit)) = is_some file
+takes_files (Some (ShowInfinite file layout limit)) = is_some file
 takes_files (Some (PlayInfinite file position limit)) = is_some file
 takes_files (Some (PlayInfiniteLines file limit)) = true
 takes_files _ = false

@@ -44,8 +44,8 @@ Says input before after (Catalogue file task limit) text succeeds =
 Says input before after (Desk script) text succeeds = ⊥
 Says input before after (Infinite file limit) text succeeds =
     ChecksInfinite (AreGiven input before file) text succeeds
-Says input before after (ShowInfinite file limit) text succeeds =
-    ShowsInfinite (AreGiven input before file) text succeeds
+Says input before after (ShowInfinite file layout limit) text succeeds =
+    ShowsInfinite (AreGiven input before file) layout text succeeds
 Says input before after (PlayInfinite file position limit) text succeeds =
     PlaysInfinite (AreGiven input before file) position text succeeds
 Says input before after (PlayInfiniteLines file limit) text succeeds =

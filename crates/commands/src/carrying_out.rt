@@ -102,7 +102,11 @@ fn say<'a, F: Folder, S: Source>(
         } => play(alloc, file, position, limit, folder, input),
         Plan::PlayLines { file, limit } => play_lines(alloc, file, limit, folder, input),
         Plan::Infinite { file, limit } => infinite(alloc, file, limit, folder, input),
-        Plan::ShowInfinite { file, limit } => show_infinite(alloc, file, limit, folder, input),
+        Plan::ShowInfinite {
+            file,
+            layout,
+            limit,
+        } => show_infinite(alloc, file, limit, layout, folder, input),
         Plan::PlayInfinite {
             file,
             position,

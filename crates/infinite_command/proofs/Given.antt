@@ -12,6 +12,7 @@ use Rattle.infinite_command.specs.Checks.{ChecksInfinite, FindsInfinite, JudgesI
 use Rattle.infinite_command.specs.Shown.{ShowsFound, ShowsInfinite}
 use Rattle.infinite_command.specs.Told.{IsRefusalText, Tells}
 use Rattle.infinite_descriptions.specs.Head.{infinite_line}
+use Rattle.requests.specs.declared.plans.Layout.{Layout}
 use Rattle.infinite_command.specs.Told.Tells.{Yes, No}
 
 -- long bytes spell nothing
@@ -75,11 +76,12 @@ checks_found Are (Err said) text succeeds (bytes, are, told) (same, ill) = (
 )
 
 -- what is shown of what is found is shown of the bytes
-pub shows_found : {A : Type 0} (Are : List ℕ → Type 0) (q : Result Kept (Vec ℕ A)) (text : List ℕ)
-    (succeeds : Bool) → FindsInfinite Are q → ShowsFound q text succeeds
-    → ShowsInfinite Are text succeeds
-shows_found Are (Ok k) text succeeds found (described, well) =
-    subst (λ b. ShowsInfinite Are text b) (sym well) (k, found, described)
-shows_found Are (Err said) text succeeds (bytes, are, told) (same, ill) =
-    subst (λ b. ShowsInfinite Are text b) (sym ill)
+pub shows_found : {A : Type 0} (Are : List ℕ → Type 0) (layout : Layout)
+    (q : Result Kept (Vec ℕ A)) (text : List ℕ) (succeeds : Bool) → FindsInfinite Are q
+    → ShowsFound layout q text succeeds
+    → ShowsInfinite Are layout text succeeds
+shows_found Are layout (Ok k) text succeeds found (described, well) =
+    subst (λ b. ShowsInfinite Are layout text b) (sym well) (k, found, described)
+shows_found Are layout (Err said) text succeeds (bytes, are, told) (same, ill) =
+    subst (λ b. ShowsInfinite Are layout text b) (sym ill)
     (bytes, are, subst (λ t. Tells bytes t false) (sym same) told)

@@ -2,8 +2,7 @@
 ghost use Rattle.std.specs.Prelude.{◌≡◌, false, IfOk, IfErr, is_none, is_some, option_map, true};
 ghost use Rattle.check_command.specs.Checks.{AreGiven, IsGivenCause, failed};
 ghost use Rattle.infinite_descriptions.specs.Described.{IsDescription};
-ghost use Rattle.infinite_descriptions.specs.declared.describing.Output.TheVariants.{Plain};
-ghost use Rattle.infinite_command.specs.Shown.{ShowsFound, ShowsInfinite};
+ghost use Rattle.infinite_command.specs.Shown.{ShowsFound, ShowsInfinite, output_for};
 
 use crate::checking::shown;
 use allocation::Memory;
@@ -11,15 +10,27 @@ use command_results::{Said, Stop};
 use folders::Folder;
 use infinite_answers::Infinite;
 use infinite_descriptions::{Output, described};
+use requests::Layout;
 use std::alloc::Global;
 use streams::Source;
 
+/// For whom the text is.
+fn output_for(layout: Layout) -> Output
+    ensures { result ≡ output_for layout }
+{
+    match layout {
+        Layout::Lines => Output::Plain,
+        Layout::Latex => Output::Latex,
+        Layout::Json => Output::Json,
+    }
+}
+
 /// What is said of a quotient.
-fn quotient_said(alloc: Global, shown: &Infinite) -> Result<Said, Memory>
-    ensures text { IfOk result (λ s. IsDescription Plain shown.now s.text.items) }
+fn quotient_said(alloc: Global, shown: &Infinite, layout: Layout) -> Result<Said, Memory>
+    ensures text { IfOk result (λ s. IsDescription (output_for layout) shown.now s.text.items) }
     ensures succeeds { IfOk result (λ s. s.succeeds ≡ true) }
 {
-    let text = described(alloc, shown, Output::Plain)?;
+    let text = described(alloc, shown, output_for(layout))?;
     Ok(Said {
         text,
         succeeds: true,
@@ -27,27 +38,28 @@ fn quotient_said(alloc: Global, shown: &Infinite) -> Result<Said, Memory>
 }
 
 /// What is said of what was found.
-fn said_of(alloc: Global, found: Result<Infinite, Vec<u8>>) -> Result<Said, Memory>
-    ensures { IfOk result (λ s. ShowsFound found s.text.items s.succeeds) }
+fn said_of(alloc: Global, found: Result<Infinite, Vec<u8>>, layout: Layout) -> Result<Said, Memory>
+    ensures { IfOk result (λ s. ShowsFound layout found s.text.items s.succeeds) }
 {
     match found {
-        Ok(shown) => quotient_said(alloc, &shown),
+        Ok(shown) => quotient_said(alloc, &shown, layout),
         Err(no) => Ok(Said::no(no)),
     }
 }
 
 /// The infinite quotient that the file, or standard input where no file is named, shows under the
-/// limit: what its certificate says, in lines; or else why it shows none.
+/// limit: all that its certificate says, in lines, for LaTeX or as JSON; or else why it shows none.
 pub fn show_infinite<'a, F: Folder, S: Source>(
     alloc: Global,
     file: Option<&'a str>,
     limit: u32,
+    layout: Layout,
     folder: &mut F,
     input: &mut S,
 ) -> Result<Said, Stop<'a>>
     ensures shows { let named = option_map (λ f. f.now) file.entry in
         IfOk result (λ s. ShowsInfinite (AreGiven (S.left input.old) (F.files folder.old) named)
-        s.text.items s.succeeds) }
+        layout s.text.items s.succeeds) }
     ensures kept { F.files folder.new ≡ F.files folder.old }
     ensures stops { IfErr result (IsGivenCause (option_map (λ f. f.now) file.entry)
         (failed (S.failures input.old) (F.failed_reads folder.old))
@@ -57,7 +69,7 @@ pub fn show_infinite<'a, F: Folder, S: Source>(
         → folder.new ≡ folder.old }
 {
     let found = shown(alloc, file, limit, folder, input)?;
-    match said_of(alloc, found) {
+    match said_of(alloc, found, layout) {
         Ok(said) => Ok(said),
         Err(Memory) => Err(Stop::Memory),
     }

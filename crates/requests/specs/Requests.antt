@@ -2,6 +2,7 @@
 use Rattle.std.specs.Prelude.{ℕ, Bool, List, Option, map, option_map}
 use Rattle.requests.specs.declared.plans.CatalogueTask.{CatalogueTask}
 use Rattle.requests.specs.declared.plans.CatalogueTask.TheVariants as task
+use Rattle.requests.specs.declared.plans.Layout.{Layout}
 use Rattle.requests.specs.declared.plans.Output.{Output}
 use Rattle.requests.specs.declared.plans.Plan.{Plan}
 use Rattle.requests.specs.declared.plans.Plan.TheVariants as plan
@@ -31,7 +32,7 @@ pub data Request : Type 0 where
   Catalogue : List ℕ → CatalogueRequest → ℕ → Request
   Desk : List ℕ → Request
   Infinite : Option (List ℕ) → ℕ → Request
-  ShowInfinite : Option (List ℕ) → ℕ → Request
+  ShowInfinite : Option (List ℕ) → Layout → ℕ → Request
   PlayInfinite : Option (List ℕ) → List ℕ → ℕ → Request
   PlayInfiniteLines : List ℕ → ℕ → Request
 
@@ -62,7 +63,8 @@ request_of (plan.Catalogue file asked limit) =
     Catalogue file.now (catalogue_request_of asked) limit
 request_of (plan.Desk script) = Desk script.now
 request_of (plan.Infinite file limit) = Infinite (option_map (λ f. f.now) file) limit
-request_of (plan.ShowInfinite file limit) = ShowInfinite (option_map (λ f. f.now) file) limit
+request_of (plan.ShowInfinite file layout limit) =
+    ShowInfinite (option_map (λ f. f.now) file) layout limit
 request_of (plan.PlayInfinite file position limit) =
     PlayInfinite (option_map (λ f. f.now) file) position.now limit
 request_of (plan.PlayInfiniteLines file limit) = PlayInfiniteLines file.now limit

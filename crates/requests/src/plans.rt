@@ -102,6 +102,7 @@ pub enum Plan<'a> {
     /// file is named.
     ShowInfinite {
         file: Option<&'a str>,
+        layout: Layout,
         limit: u32,
     },
     /// Answer in a position by the infinite quotient that the file certifies under the limit, or
@@ -134,6 +135,17 @@ pub enum Output {
     Singular,
     /// The same for GAP.
     Gap,
+}
+
+/// How an infinite quotient is printed.
+#[derive(Clone, Copy, Debug, PartialEq, Eq)]
+pub enum Layout {
+    /// In lines for readers.
+    Lines,
+    /// For LaTeX.
+    Latex,
+    /// As one object of JSON.
+    Json,
 }
 
 /// What is asked of a catalogue.

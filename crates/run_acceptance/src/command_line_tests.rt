@@ -3,7 +3,7 @@ use crate::comparing::compare;
 use crate::rows::{Row, count_held};
 use crate::words::line_words;
 use command_line::{Exclusion, Quantity, UsageFault, VERSION, plan};
-use requests::{Aim, CatalogueTask, Output, Plan, SolveBounds};
+use requests::{Aim, CatalogueTask, Layout, Output, Plan, SolveBounds};
 use std::alloc::Global;
 
 /// What words ask for.
@@ -14,7 +14,7 @@ enum Asked {
     Play(Option<&'static str>, &'static str, u32),
     PlayLines(&'static str, u32),
     Infinite(Option<&'static str>, u32),
-    ShowInfinite(Option<&'static str>, u32),
+    ShowInfinite(Option<&'static str>, Layout, u32),
     PlayInfinite(Option<&'static str>, &'static str, u32),
     PlayInfiniteLines(&'static str, u32),
     Present(&'static str),
@@ -104,7 +104,11 @@ fn plan_of(asked: &Asked) -> Plan<'static> {
         },
         Asked::PlayLines(file, limit) => Plan::PlayLines { file, limit },
         Asked::Infinite(file, limit) => Plan::Infinite { file, limit },
-        Asked::ShowInfinite(file, limit) => Plan::ShowInfinite { file, limit },
+        Asked::ShowInfinite(file, layout, limit) => Plan::ShowInfinite {
+            file,
+            layout,
+            limit,
+        },
         Asked::PlayInfinite(file, position, limit) => Plan::PlayInfinite {
             file,
             position,
@@ -146,7 +150,7 @@ impl Row for Asks {
     }
 }
 
-static ASKED: [Asks; 65] = [
+static ASKED: [Asks; 67] = [
     Asks("check", Asked::Check(None, 100000)),
     Asks("check|a.mqc", Asked::Check(Some("a.mqc"), 100000)),
     Asks("check|--limit|1", Asked::Check(None, 1)),
@@ -222,7 +226,15 @@ static ASKED: [Asks; 65] = [
     ),
     Asks(
         "infinite|a.mqi|--show",
-        Asked::ShowInfinite(Some("a.mqi"), 100000),
+        Asked::ShowInfinite(Some("a.mqi"), Layout::Lines, 100000),
+    ),
+    Asks(
+        "infinite|a.mqi|--show|--latex",
+        Asked::ShowInfinite(Some("a.mqi"), Layout::Latex, 100000),
+    ),
+    Asks(
+        "infinite|--json|--show|a.mqi|--limit=9",
+        Asked::ShowInfinite(Some("a.mqi"), Layout::Json, 9),
     ),
     Asks(
         "infinite|a.mqi|4 2|--limit|8",
@@ -412,7 +424,10 @@ static BY_INPUT: [Asks; 11] = [
     ),
     Asks("play|-|1 2 2", Asked::Play(None, "1 2 2", 100000)),
     Asks("infinite|-", Asked::Infinite(None, 100000)),
-    Asks("infinite|-|--show", Asked::ShowInfinite(None, 100000)),
+    Asks(
+        "infinite|-|--show",
+        Asked::ShowInfinite(None, Layout::Lines, 100000),
+    ),
     Asks("infinite|-|4 2", Asked::PlayInfinite(None, "4 2", 100000)),
     Asks(
         "catalogue|-",
@@ -423,7 +438,7 @@ static BY_INPUT: [Asks; 11] = [
 
 #[test]
 fn asks_for_plans(rt: HostRuntime) {
-    compare(&rt, "ASKED", count_held(rt.alloc(), &ASKED), 65);
+    compare(&rt, "ASKED", count_held(rt.alloc(), &ASKED), 67);
     compare(&rt, "BY_INPUT", count_held(rt.alloc(), &BY_INPUT), 11);
     compare(&rt, "ASKED_MANY", count_held(rt.alloc(), &ASKED_MANY), 5);
 }
@@ -465,12 +480,22 @@ impl Row for Refuses {
     }
 }
 
-static REFUSED: [Refuses; 153] = [
+static REFUSED: [Refuses; 157] = [
     Refuses("play|-|-", Why::Exclusive(Exclusion::Play)),
     Refuses("infinite|-|-", Why::Exclusive(Exclusion::Play)),
     Refuses(
         "infinite|a.mqi|1|--show",
         Why::Exclusive(Exclusion::Infinite),
+    ),
+    Refuses(
+        "infinite|a.mqi|--latex|1|--show",
+        Why::Exclusive(Exclusion::Infinite),
+    ),
+    Refuses("infinite|a.mqi|--latex", Why::Exclusive(Exclusion::Layout)),
+    Refuses("infinite|a.mqi|1|--json", Why::Exclusive(Exclusion::Layout)),
+    Refuses(
+        "infinite|a.mqi|--show|--latex|--json",
+        Why::Exclusive(Exclusion::Layout),
     ),
     Refuses("infinite|a.mqi|--limit=0", Why::Number(Quantity::Limit)),
     Refuses("infinite", Why::Words),
@@ -766,7 +791,7 @@ fn is_incomplete(alloc: Global) -> bool {
 
 #[test]
 fn tells_why_words_ask_for_nothing(rt: HostRuntime) {
-    compare(&rt, "REFUSED", count_held(rt.alloc(), &REFUSED), 153);
+    compare(&rt, "REFUSED", count_held(rt.alloc(), &REFUSED), 157);
     compare(&rt, "no command", is_incomplete(rt.alloc()), true);
 }
 

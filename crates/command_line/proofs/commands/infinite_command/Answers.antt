@@ -8,4 +8,6 @@ returns c =
     let two = c.with_arg-made-2.ensures _ _ _ one c.optional.ensures.rule
     c.optional.ensures.local in
     let three = c.with_arg-made-3.ensures _ _ _ two c.flag.ensures.rule c.flag.ensures.local in
-    c.with_arg.ensures _ _ _ three c.limit.ensures.rule c.limit.ensures.local
+    let four = c.with_arg-made-4.ensures _ _ _ three c.flag-2.ensures.rule c.flag-2.ensures.local in
+    let five = c.with_arg-made-5.ensures _ _ _ four c.flag-3.ensures.rule c.flag-3.ensures.local in
+    c.with_arg.ensures _ _ _ five c.limit.ensures.rule c.limit.ensures.local
