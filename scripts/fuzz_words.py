@@ -95,6 +95,7 @@ def tries(commands: Commands, chance: random.Random, text: bytes) -> Iterator[tu
     yield [b"infinite", b"x.mqi"], b""
     yield [b"infinite", b"x.mqi", word(POSITIONS, chance)], b""
     yield [b"infinite", b"x.mqi", b"-"], lines_of(POSITIONS, chance)
+    yield [b"infinite", b"x.mqi", b"--show", *chance.sample([b"--latex", b"--json"], chance.randrange(3))], b""
     yield [b"present", word(PRESENTATIONS, chance)], b""
     yield [b"solve", word(CODES, chance), b"--heaps", b"12", b"--rounds", b"2"], b""
     yield [b"solve", *(word(CODES, chance) for _ in range(3)), b"--heaps", b"12", b"--rounds", b"2"], b""
