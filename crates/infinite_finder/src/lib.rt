@@ -19,8 +19,6 @@ mod rays;
 mod refining;
 mod shapes;
 mod states;
-#[cfg(test)]
-mod tests;
 mod trying;
 
 pub use finding::{FoundInfinite, Unfound, find_infinite};

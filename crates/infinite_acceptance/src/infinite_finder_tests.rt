@@ -1,5 +1,5 @@
 //! Certificates that are found from a code alone.
-use crate::find_infinite;
+use infinite_finder::find_infinite;
 use octal_code::Code;
 use std::alloc::Global;
 
