@@ -15,7 +15,7 @@ _misere() {
         present) options="--help" ;;
         catalogue) options="--new --add --get --heaps --salvage --migrate --limit --help" ;;
         desk) options="--help" ;;
-        infinite) options="--show --limit --help" ;;
+        infinite) options="--show --latex --json --limit --help" ;;
     esac
     COMPREPLY=()
     case $before in

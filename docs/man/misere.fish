@@ -57,6 +57,8 @@ complete -c misere -n '__fish_seen_subcommand_from catalogue; and not __fish_see
 complete -c misere -n '__fish_seen_subcommand_from desk; and not __fish_seen_subcommand_from help' -F
 complete -c misere -n '__fish_seen_subcommand_from desk; and not __fish_seen_subcommand_from help' -l help -d 'Print help'
 complete -c misere -n '__fish_seen_subcommand_from infinite; and not __fish_seen_subcommand_from help' -F
-complete -c misere -n '__fish_seen_subcommand_from infinite; and not __fish_seen_subcommand_from help' -l show -d 'Print how large the quotient is, and the positions that show that it is infinite'
+complete -c misere -n '__fish_seen_subcommand_from infinite; and not __fish_seen_subcommand_from help' -l show -d 'Print the elements and counts of the heaps, where each element is P, and a family of positions with its outcomes'
+complete -c misere -n '__fish_seen_subcommand_from infinite; and not __fish_seen_subcommand_from help' -l latex -d 'With --show: print it for LaTeX'
+complete -c misere -n '__fish_seen_subcommand_from infinite; and not __fish_seen_subcommand_from help' -l json -d 'With --show: print all of it as one object of JSON'
 complete -c misere -n '__fish_seen_subcommand_from infinite; and not __fish_seen_subcommand_from help' -l limit -x -d 'Keep at most N members of a closure: 1 to 1000000, by default 100000'
 complete -c misere -n '__fish_seen_subcommand_from infinite; and not __fish_seen_subcommand_from help' -l help -d 'Print help'
