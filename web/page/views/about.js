@@ -25,8 +25,8 @@ const PROVED = [
 const TRUSTED = [
   "The prover, its compiler and its library, as for the program itself.",
   "That the proved code, which is compiled for x86-64 up to the last step, means the same for WebAssembly; the last " +
-      "step; the module’s heap and its products and shifts of 128 bits, which are short C; and the step that makes its " +
-      "addresses 32 bits wide.",
+      "step; the module’s heap, and its products and shifts of 128 bits, which are short C; and the step that makes " +
+      "its addresses 32 bits wide.",
   "Your browser, and how the page passes bytes to the module and back.",
   "What the page draws. Its rules in words, its moves, its words for elements beyond those of a description, its " +
       "components and its pictures are its own reading of a certificate. So are the heaps, base, up and down of one " +
