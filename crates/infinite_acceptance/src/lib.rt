@@ -5,6 +5,8 @@
 #[cfg(test)]
 mod counted_states_tests;
 #[cfg(test)]
+mod infinite_checker_tests;
+#[cfg(test)]
 mod infinite_finder_tests;
 #[cfg(test)]
 mod tracked_certificate_tests;

@@ -7,8 +7,8 @@ use Rattle.tracked_text.specs.Said.{Said, InRanges, fields_of}
 use Rattle.tracked_text.specs.Shape.{AreShaped}
 use Rattle.tracked_text.specs.Spelling.{Spells}
 use Rattle.tracked_certificate.specs.Told.{Told, told_of}
-use Rattle.infinite_answers.specs.Answers.{Why, Text, Law, Order, Outcome, Limit, Memory, Part, Idle, Undecided, Ray, FitsIn, Fits, IsTrueOf}
-use Rattle.infinite_answers.specs.Kept.{Kept, IsKeptOf, IsRight}
+use Rattle.infinite_answers.specs.Answers.{Why, Text, Law, Order, Outcome, Limit, Memory, Part, Idle, Undecided, Ray, Fits, IsTrueOf}
+use Rattle.infinite_answers.specs.Kept.{Kept, IsKeptOf}
 use Rattle.infinite_answers.specs.Shown.{IsShown}
 use Rattle.infinite_checker.specs.Right.{IsRightIn}
 use Rattle.infinite_checker.specs.Ray.{IsRayIn}
@@ -35,10 +35,7 @@ module _ (law : (c : Said) (step far : ℕ) → InRanges c
       subst (λ t. IsJudged t → IsKeptOf (kept_of t) c × IsShown c) (sym e)
       (λ j. (record { claim = refl; base = refl; up = refl; down = refl }, shown_told c ranges j)) j
 
-  pub is_right : (t : Told) (c : Said) → InRanges c → t ≡ told_of c → IsJudged t → IsRight (kept_of t)
-  is_right t c ranges e j = let (kept, shown) = kept_and_shown t c ranges e j in (c, ranges, kept, shown)
-
-  -- the same of parts that are those of the text
+  -- the answer, of parts that are those of the text
   pub answered_yes : (t : Told) (u : Fields) (base up down : List ℕ) (k : Kept) (c : Said)
       → InRanges c → t ≡ told_of c → Monoid t.fields.order (claim_in t.fields).times → u ≡ t.fields
       → IsRightIn u → ((step : ℕ) × (far : ℕ) × IsRayIn u base up down step far)
@@ -60,10 +57,6 @@ module _ (law : (c : Said) (step far : ℕ) → InRanges c
       let eq : k ≡ kept_of t =
       is ∙ ap (λ u. record { claim = u; base = t.base; up = t.up; down = t.down }) same in
       (subst (λ k. IsKeptOf k c) (sym eq) kept, shown)
-
-pub fits_said : (t : Told) (c : Said) → t ≡ told_of c → (why : Why) → FitsIn t.fields t.words why
-    → Fits c why
-fits_said t c e why f = subst (λ t. FitsIn t.fields t.words why) e f
 
 pub law_fails : (t : Told) (c : Said) → t ≡ told_of c → AreShaped (fields_of c)
     → (AreShaped t.fields → LawFails t.fields.order (claim_in t.fields).times) → Fits c Law

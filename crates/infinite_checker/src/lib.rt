@@ -9,8 +9,6 @@ mod laws;
 mod numbering;
 mod predicting;
 mod rays;
-#[cfg(test)]
-mod tests;
 
 pub use checking::check_infinite;
 pub use laws::joined_tables_describe;

@@ -1,12 +1,8 @@
 -- The letters of outcomes.
-use Rattle.std.proofs.Common.{◌≡◌, ◌↔◌, ℕ, Bool, true, false, List, ap, codes, refl, sym}
+use Rattle.std.proofs.Common.{◌≡◌, ◌↔◌, ℕ, Bool, true, false, List, codes, refl}
 use Rattle.misere_theory.specs.Games.{IsP, IsN}
 use Rattle.misere_theory.proofs.Outcomes.{not_both}
 use Rattle.infinite_descriptions.specs.Families.{letter}
-
-pub p_letter : (code X : List ℕ) (said : Bool) → IsP code X ↔ (said ≡ true) → IsP code X
-    → codes "P" ≡ letter said
-p_letter code X said tells p = sym (ap letter (tells.0 p))
 
 pub n_letter : (code X : List ℕ) (said : Bool) → IsP code X ↔ (said ≡ true) → IsN code X
     → codes "N" ≡ letter said

@@ -1,4 +1,3 @@
-mod Counted
 mod Family
 mod LeftOut
 mod Letters

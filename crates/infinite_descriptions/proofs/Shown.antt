@@ -1,6 +1,5 @@
 -- Lines of places, where there are some; and items behind others.
 use Rattle.std.proofs.Common.{◌≡◌, ◌∙◌, ◌==◌, ◌+◌, ℕ, suc, Bool, false, true, List, [], ◌∷◌, ◌++◌, ap, append_assoc, arith, codes, decimal, length, refl, sym}
-use Rattle.infinite_descriptions.specs.Families.{or_zero}
 use Rattle.infinite_descriptions.specs.Latex as latex
 use Rattle.infinite_descriptions.specs.Latex.{place_latex}
 use Rattle.infinite_descriptions.specs.Plain as plain
@@ -17,10 +16,6 @@ pub some_in_latex : (f : ℕ) (places : List ℕ) → (places ≡ [] → ⊥)
     → latex.place_pieces f places ≡ place_latex f places
 some_in_latex f [] some = absurd (some refl)
 some_in_latex f (b ∷ places) some = refl
-
-pub some_terms : (text : List ℕ) → (text ≡ [] → ⊥) → text ≡ or_zero text
-some_terms [] some = absurd (some refl)
-some_terms (b ∷ bytes) some = refl
 
 -- a text that isn't empty is something
 pub is_some : {A : Type 0} (b : Bool) (xs : List A) → b ≡ false → b ≡ (length xs == 0) → xs ≡ [] → ⊥

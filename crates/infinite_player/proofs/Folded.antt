@@ -2,7 +2,7 @@
 -- largest number.
 use Rattle.std.proofs.Common.{◌≡◌, ℕ, zero, suc, ◌+◌, ◌-◌, ◌*◌, ◌/◌, ◌%◌, ◌<◌, ◌≤◌, ◌⊎◌, min, ℤ, pos, ◌+ℤ◌, ◌-ℤ◌, ◌≤ℤ◌, ◌<ℤ◌, nat_abs, nat_eq, Bool, false, List, ◌∷◌, refl, sym, ◌∙◌, ap, ap₂, inl, inr, arith}
 use Rattle.std.proofs.lemmas.Int.{ints}
-use Rattle.std.proofs.Math.Nat.{zero-div, zero-mul, mul-zero, le-mul_of_pos_right, mul-le-mul_right, mod-lt}
+use Rattle.std.proofs.Math.Nat.{zero-div, zero-mul, mul-zero, le-mul_of_pos_right, mul-le-mul_right}
 use native.Mathlib.Decide.{dec_lt}
 use Rattle.counted_claims.specs.Folds.{Fold, is_signed, taken_of, lesser, taken, rest}
 use Rattle.counted_claims.specs.Tracked.{place_count, all_place_count}
@@ -73,9 +73,6 @@ rest_above : (top m : ℕ) (x least : ℤ) → pos top <ℤ x → least ≡ pos 
 rest_above top m x least l e =
     ap (λ z. z +ℤ pos (nat_abs (x -ℤ z) % m)) e ∙ rw (lt_is_true (pos top) x l) refl
 
-pub rest_is_it : (top m x : ℕ) → x ≤ top → pos x ≡ rest top m (pos x)
-rest_is_it top m x l = rest_below top m (pos x) (omega (arith, ints))
-
 pub rest_is : (top m x : ℕ) → 1 ≤ m → m ≤ top + 1 → top < x
     → pos (top - (m - 1) + (x - (top - (m - 1))) % m) ≡ rest top m (pos x)
 rest_is top m x some fits l =
@@ -83,12 +80,6 @@ rest_is top m x some fits l =
     let size : x - n ≡ nat_abs (pos x -ℤ pos n) = omega (arith, ints) in
     ap (λ k. pos (n + k % m)) size
     ∙ rest_above top m (pos x) (pos n) (omega (arith, ints)) (omega (arith, ints))
-
--- what is left fits below the top
-pub rest_small : (top m x : ℕ) → 1 ≤ m → m ≤ top + 1
-    → top - (m - 1) + (x - (top - (m - 1))) % m ≤ top
-rest_small top m x some fits =
-    let l = mod-lt (x - (top - (m - 1))) some in omega arith
 
 pub place_is : (top m x t r : ℕ) (z : ℤ) → pos t ≡ z → t ≤ x → pos r ≡ rest top m (pos (x - t))
     → r ≡ nat_abs (rest top m (pos x -ℤ z))

@@ -1,9 +1,8 @@
 -- The rows that are made of the first ones, as they lie in memory.
 use Rattle.std.proofs.Common.{◌≡◌, ℕ, ◌+◌, ◌-◌, ◌*◌, ◌≤◌, ◌<◌, List, ◌∷◌, ◌++◌, refl, length, get_or, All, sym, ap, subst, ◌∙◌, arith}
-use Rattle.std.specs.Prelude.{slice_index, unwrap_or}
+use Rattle.std.specs.Prelude.{slice_index}
 use Rattle.std.specs.List.{concat, range_with_len}
-use Rattle.std.proofs.lemmas.List.{get_or_default, length-map, length-drop}
-use Rattle.std.proofs.lemmas.List.Elements.{All-from_recursion}
+use Rattle.std.proofs.lemmas.List.{get_or_default, length-drop}
 use Rattle.compact_certificates.specs.Flat.{product_in}
 use Rattle.compact_certificates.specs.Rows.{firsts_of}
 use Rattle.tracked_text.specs.Said.{Said, phi_of, all_rows}
@@ -43,18 +42,6 @@ module _ (s : Said) (order : ℕ) (first : List ℕ) (words : List (ℕ × ℕ))
     here =
         is ∙ at ∙ get_or_default words j entry (0, 0) high
         ∙ ap (λ (ks : List (ℕ × ℕ)). get_or ks j (0, 0)) a.words_are
-
-    pub heap_there : heap ≤ length phi
-    heap_there =
-        let high_s : j < length s.words =
-        subst (λ (ks : List (ℕ × ℕ)). j < length ks) a.words_are high in
-        let all = All-from_recursion (λ k. (k.0 < s.order) × (1 ≤ k.1) × (k.1 ≤ length s.elements))
-        s.words a.in_ranges.words.1 j (0, 0) high_s in
-        let below : heap ≤ length s.elements =
-        subst (λ (k : ℕ × ℕ). k.1 ≤ length s.elements) (sym here) all.2 in
-        let n = length-map s.elements (λ e. unwrap_or e 0) in
-        let m = ap length a.phi_is in
-        omega arith
 
     pub next : (value : ℕ) → firsts_of words ≤ j → value ≡ slice_index (0 ∷ phi) heap
         → (flat : List ℕ) → flat ≡ concat (rows_made s (j - firsts_of words))

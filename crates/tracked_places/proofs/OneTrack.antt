@@ -20,13 +20,6 @@ first_moved fs gs a u v x y e f moved h =
     let j : place_up a x y ≡ y = cc in
     moved i j
 
-pub others_moved : (fs gs : List Fold) (a : Fold) (u v : List ℤ) (x y : ℤ) → fs ≡ a ∷ gs
-    → v ≡ x ∷ y ∷ u → (folded gs u ≡ u → ⊥) → folded fs v ≡ v → ⊥
-others_moved fs gs a u v x y e f moved h =
-    let k : place_down a x y ∷ place_up a x y ∷ folded gs u ≡ x ∷ y ∷ u = rw (e, f) at h in
-    let i : folded gs u ≡ u = cc in
-    moved i
-
 pub one_more_finer : (fs gs rs ts : List Fold) (a b c : Fold) (ms ns : List ℕ) (m o next : ℕ)
     (D : List (List ℤ)) → fs ≡ a ∷ gs → ms ≡ m ∷ ns → rs ≡ b ∷ ts → c ≡ finer a (map (drop o) D) m
     → next ≡ o + 2 → c ≡ b → all_finer gs (map (drop next) D) ns ≡ ts

@@ -1,5 +1,5 @@
 //! Certificates that others found, and texts that aren't right.
-use crate::check_infinite;
+use infinite_checker::check_infinite;
 use std::alloc::Global;
 
 /// Of 0.354 to heap 5, as a search by other programs found it: what stands before the regions.
