@@ -9,6 +9,7 @@
     q.table[2][3], q.phi(10**18), q.portion
     print(q.describe())                    # generators and relations, as the literature prints them
     misere.Catalogue()["Kayles"]           # that of the atlas, by its code or its name
+    misere.certify("0.1", [[0, 1], [1, 0]], heaps=[1, 0], portion=[1], period=1)  # one's own, in any numbering
     misere.check_infinite(pathlib.Path("0.354_heaps_5.mqi")).outcome([2, 4] + 7 * [5])  # 'P': no finite one says so
 
 What outcome, value, answer and winning_move give is proved of every position, of any number of heaps of 1 to 10^18 (of
@@ -44,7 +45,7 @@ from ._faults import (
     Refused,
     WrongType,
 )
-from ._finder import check, check_infinite, solve, solve_furthest, solve_part
+from ._finder import certify, check, check_infinite, solve, solve_furthest, solve_part
 from ._infinite import InfiniteOutput, InfiniteQuotient
 from ._library import version
 from ._quotient import Output, Quotient
@@ -76,6 +77,7 @@ __all__ = [
     "Refused",
     "WrongType",
     "__version__",
+    "certify",
     "check",
     "check_infinite",
     "solve",

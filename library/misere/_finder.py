@@ -2,7 +2,7 @@
 
 from __future__ import annotations
 
-from collections.abc import Iterator
+from collections.abc import Iterable, Iterator, Sequence
 
 from ._asked import Given
 from ._bounds import (
@@ -24,6 +24,7 @@ from ._faults import GAVE_UP, NOT_A_CODE, NOT_IN_RANGE, MisereError, NotACode, N
 from ._given import number_of
 from ._infinite import InfiniteQuotient
 from ._library import library, told_by
+from ._own import own_certificate
 from ._quotient import Quotient
 
 # Of which heaps a search is to find the quotient
@@ -40,6 +41,23 @@ def check_infinite(certificate: Given, limit: int = LIMIT) -> InfiniteQuotient:
     """The infinite quotient that the certificate is of; or it raises Refused. The certificate is given as to `check`, and
     begins with mqi 1."""
     return InfiniteQuotient(certificate, limit)
+
+
+def certify(
+    code: str,
+    table: Sequence[Sequence[int]],
+    heaps: Iterable[int],
+    portion: Iterable[int],
+    period: int = 0,
+    limit: int = LIMIT,
+) -> Quotient:
+    """The quotient of one's own table, from GAP, say, or a paper; or it raises Refused.
+
+    `table` has a row of products for each element, whatever its number is. `heaps` has the elements of the heaps 1, 2, ..,
+    of which the last `period` come again and again; or with the period 0 it is a part of the game, with these heaps alone.
+    `portion` has the elements of the P-positions. Elements and heaps are numbered anew as a certificate wants it, which
+    is then checked. What is refused of the table itself is said by its own numbers."""
+    return Quotient(own_certificate(code, table, heaps, portion, period), limit)
 
 
 def solve(

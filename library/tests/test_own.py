@@ -1,0 +1,74 @@
+"""Quotients of one's own, in any numbering."""
+
+from __future__ import annotations
+
+import random
+import unittest
+
+import misere
+from tests import quotient, samples
+
+# Of two elements each of which is its own inverse, and of three that aren't so simple
+TWO = [[0, 1], [1, 0]]
+CHAIN = [[0, 1, 2], [1, 1, 2], [2, 2, 2]]
+
+
+class Own(unittest.TestCase):
+    def test_a_sample_in_another_numbering_is_the_sample(self) -> None:
+        for path in sorted(samples.glob("*.mqc")):
+            with self.subTest(path.name):
+                sample = quotient(path.stem)
+                names = [*range(sample.order)]
+                random.Random(path.name).shuffle(names)
+                places = sorted(range(sample.order), key=names.__getitem__)
+                table = [[names[sample.table[x][y]] for y in places] for x in places]
+                last = sample.last_heap or sample.start + 3 * sample.period - 1
+                heaps = [names[sample.phi(heap)] for heap in range(1, last + 1)]
+                portion = {names[it] for it in sample.portion}
+                period = 2 * sample.period if sample.last_heap is None else 0
+                self.assertEqual(misere.certify(sample.code, table, heaps, portion, period), sample)
+
+    def test_what_is_refused_of_a_table_has_its_own_numbers(self) -> None:
+        rows: list[tuple[str, list[list[int]], list[int], list[int], str]] = [
+            ("no identity", [[0, 0], [0, 0]], [1], [1], "2 Law: no element of the table is the identity"),
+            (
+                "not commutative",
+                [[0, 1, 2], [1, 1, 1], [2, 2, 2]],
+                [1, 2],
+                [1],
+                "2 Law: the product 2·1 is 2, and 1·2 is 1",
+            ),
+            (
+                "not associative",
+                [[0, 1, 2], [1, 2, 0], [2, 0, 0]],
+                [1, 2],
+                [1],
+                "2 Law: the product (1·1)·2 is 0, and 1·(1·2) is 1",
+            ),
+            ("unreached", CHAIN, [1], [1], "2 Law: no position has the element 2: the heaps' elements make 2 of 3"),
+            ("not apart", TWO, [1], [0, 1], "6 Apart: no element tells 0 and 1 apart"),
+            (
+                "the empty position is N",
+                TWO,
+                [1],
+                [0],
+                "7 Outcome: the rule of the code's game fails at a position: []",
+            ),
+        ]
+        for name, table, heaps, portion, said in rows:
+            with self.subTest(name), self.assertRaises(misere.Refused) as refused:
+                misere.certify("0.1", table, heaps, portion)
+            self.assertEqual(str(refused.exception), said)
+
+    def test_what_is_no_table(self) -> None:
+        rows: list[tuple[str, list[list[int]], list[int], list[int], int, str]] = [
+            ("one element", [[0]], [0], [0], 0, "a table has 2 to 4096 rows, and this one 1"),
+            ("a short row", [[0, 1], [1]], [1], [1], 0, "the table has 2 rows, and its row 1 1 entries"),
+            ("no element", [[0, 1], [1, 2]], [1], [1], 0, "an entry of row 1 is 0 to 1, and 2 isn't"),
+            ("no heaps", TWO, [], [1], 0, "of 0 heaps none has the period 0"),
+            ("a long period", TWO, [1, 0], [1], 3, "of 2 heaps none has the period 3"),
+        ]
+        for name, table, heaps, portion, period, said in rows:
+            with self.subTest(name), self.assertRaises(misere.NotInRange) as stop:
+                misere.certify("0.1", table, heaps, portion, period)
+            self.assertEqual(stop.exception.said, said)
