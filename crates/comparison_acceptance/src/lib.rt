@@ -1,0 +1,10 @@
+//! Tests of the comparisons of certified quotients, by public names alone. There is nothing else
+//! here: a library's proof then waits for no test.
+#![tactic(auto)]
+
+#[cfg(test)]
+mod certificates;
+#[cfg(test)]
+mod comparing;
+#[cfg(test)]
+mod comparisons_tests;
