@@ -60,3 +60,18 @@ row 6 9 4 7 2 11 0 3 10 1 8 5\nrow 7 4 11 10 5 4 3 8 7 2 3 2\nrow 8 5 2 3 4 5 10
 row 9 6 7 4 3 10 1 2 11 0 5 8\nrow 10 11 4 7 2 11 8 3 10 5 8 5\nrow 11 10 7 4 3 10 5 2 11 8 5 8\n\
 apart 0 1 1 1 5 8 1 0 0 1 1 0 0 0 0 0 0 5 5 0 0 2 2 1 1 2 0 0 2 2 3 1 1 3 0 0 3 3 1 1 4 0 0 4 4 5 \
 1 0 0 1 1 1 0 0 1 1 0 0 6 7 6 0 0 0 0 6\nend\n";
+
+/// The quotient of 0.774 for the heaps up to 9.
+pub const PART_OF_0_774: &str =
+    "mqc 2\ncode 0.774\norder 12\nstart 10\nperiod 0\nphi 1 2 3 1 4 5 6 7 8\nportion 1 10\nwords 0:1 \
+0:2 0:3 0:5 0:6 0:7 0:8 0:9 1:9 2:2 2:3\nrow 0 1 2 3 4 5 6 7 8 9 10 11\nrow 1 0 3 2 5 4 7 6 9 8 \
+11 10\nrow 2 3 10 11 6 7 4 5 3 2 2 3\nrow 3 2 11 10 7 6 5 4 2 3 3 2\nrow 4 5 6 7 10 11 2 3 5 4 \
+4 5\nrow 5 4 7 6 11 10 3 2 4 5 5 4\nrow 6 7 4 5 2 3 10 11 7 6 6 7\nrow 7 6 5 4 3 2 11 10 6 7 7 \
+6\nrow 8 9 3 2 5 4 7 6 10 11 11 10\nrow 9 8 2 3 4 5 6 7 11 10 10 11\nrow 10 11 2 3 4 5 6 7 11 \
+10 10 11\nrow 11 10 3 2 5 4 7 6 10 11 11 10\napart 0 1 1 1 1 1 1 1 1 0 8 0 0 0 0 0 0 0 0 9 0 2 \
+2 2 2 2 2 2 0 1 3 3 3 3 3 3 0 1 4 4 4 4 4 0 1 5 5 5 5 0 1 6 6 6 0 1 7 7 0 1 8 0 1 0 1 0\nend\n";
+
+/// Two elements with one row.
+pub const REFUSED_LAW: &str =
+    "mqc 1\ncode 0.3\norder 2\nstart 1\nperiod 2\nphi 1 0\nportion 1\nwords 0:1\nrow 0 1\n\
+row 0 1\napart 0\nend\n";

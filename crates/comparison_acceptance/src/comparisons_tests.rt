@@ -43,7 +43,12 @@ static ROWS: [Row; 9] = [
             &[0, 7, 2, 11, 4, 1, 3, 10, 9, 6, 8, 5],
         ]),
     ),
-    (OF_0_34, PART_OF_0_054, 1000, Wanted::Different),
+    (
+        OF_0_34,
+        PART_OF_0_054,
+        1000,
+        Wanted::Apart(Difference::First(0)),
+    ),
     (PART_OF_0_054, OF_0_34, 1000, Wanted::Different),
     (PART_OF_0_054, OF_0_312, 1000, Wanted::Different),
 ];

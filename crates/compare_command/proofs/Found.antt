@@ -1,0 +1,62 @@
+-- What is said of two quotients, from what was found.
+use Rattle.std.proofs.Common.{◌≡◌, ◌++◌, ℕ, Bool, false, List, Option, Some, None, Result, Ok, Err, Vec, codes, refl, subst}
+use Rattle.std.specs.Prelude.{is_none}
+use Rattle.misere_theory.specs.Certificates.{Certificate}
+use Rattle.check_command.specs.Checks.{AreGiven, Finds}
+use Rattle.compare_command.specs.Compared.{Compares, ComparesBeside, SaysFound, left_behind}
+use Rattle.compare_command.specs.Compared.Compares.{Beside, NoFirst}
+use Rattle.compare_command.specs.Compared.ComparesBeside.{Quotient, NoQuotient}
+
+pub compares_found : {A : Type 0} (c : Certificate) (Are : List ℕ → Type 0) (limit : ℕ)
+    (q : Result Certificate (Vec ℕ A)) (text : List ℕ) (succeeds : Bool) → Finds Are limit q
+    → SaysFound c q text succeeds → ComparesBeside c Are limit text succeeds
+compares_found c Are limit (Ok d) text succeeds f h = Quotient d f h
+compares_found c Are limit (Err refused) text succeeds f h = NoQuotient refused.items f h.0 h.1
+
+-- what is said of such bytes is said of others that they are, too
+beside_others : (c : Certificate) (Are Other : List ℕ → Type 0) (limit : ℕ) (text : List ℕ)
+    (succeeds : Bool) → ((bytes : List ℕ) → Are bytes → Other bytes)
+    → ComparesBeside c Are limit text succeeds → ComparesBeside c Other limit text succeeds
+beside_others c Are Other limit text succeeds are (Quotient d f h) =
+    Quotient d (f.0, are f.0 f.1, f.2) h
+beside_others c Are Other limit text succeeds are (NoQuotient refused f is ill) =
+    NoQuotient refused (f.0, are f.0 f.1, f.2) is ill
+
+-- of standard input nothing need be known
+given_by_none : (left : Option (List ℕ)) (files : Option (List ℕ → Option (List ℕ)))
+    (file : Option (List ℕ)) (bytes : List ℕ) → AreGiven left files file bytes
+    → AreGiven None files file bytes
+given_by_none left files None bytes are = tt
+given_by_none left files (Some file) bytes are = are
+
+module _ (left mid : Option (List ℕ)) (files : Option (List ℕ → Option (List ℕ))) where
+  behind : (c : Certificate) (one other : Option (List ℕ)) (limit : ℕ) (text : List ℕ)
+      (succeeds : Bool) → (is_none one ≡ false → mid ≡ left)
+      → ComparesBeside c (AreGiven mid files other) limit text succeeds
+      → ComparesBeside c (AreGiven (left_behind one left) files other) limit text succeeds
+  behind c None other limit text succeeds same h =
+      beside_others c (AreGiven mid files other) (AreGiven None files other) limit text succeeds
+      (given_by_none mid files other) h
+  behind c (Some file) other limit text succeeds same h =
+      subst (λ (l : Option (List ℕ)). ComparesBeside c (AreGiven l files other) limit text succeeds)
+      (same refl) h
+
+  pub compares_beside : {A : Type 0} (one other : Option (List ℕ)) (limit : ℕ)
+      (q : Result Certificate (Vec ℕ A)) (c : Certificate) (text : List ℕ) (succeeds : Bool)
+      → Finds (AreGiven left files one) limit q → q ≡ Ok c → (is_none one ≡ false → mid ≡ left)
+      → ComparesBeside c (AreGiven mid files other) limit text succeeds
+      → Compares (AreGiven left files one) (AreGiven (left_behind one left) files other) limit text
+      succeeds
+  compares_beside {A = A} one other limit q c text succeeds found is same h =
+      Beside c
+      (subst (λ (r : Result Certificate (Vec ℕ A)). Finds (AreGiven left files one) limit r) is
+      found)
+      (behind c one other limit text succeeds same h)
+
+pub compares_no : {A : Type 0} (Are Other : List ℕ → Type 0) (limit : ℕ)
+    (q : Result Certificate (Vec ℕ A)) (refused : Vec ℕ A) (text : List ℕ) (succeeds : Bool)
+    → Finds Are limit q → q ≡ Err refused → text ≡ codes "first: " ++ refused.items → succeeds ≡ false
+    → Compares Are Other limit text succeeds
+compares_no {A = A} Are Other limit q refused text succeeds found is same ill =
+    NoFirst refused.items
+    (subst (λ (r : Result Certificate (Vec ℕ A)). Finds Are limit r) is found) same ill

@@ -1,0 +1,118 @@
+//! The comparison of the quotients of two files.
+ghost use Rattle.std.specs.Prelude.{◌≡◌, ◌++◌, ◌||◌, false, IfOk, IfErr, is_none, is_some, option_map};
+ghost use Rattle.check_command.specs.Checks.{AreGiven, IsGivenCause, failed};
+ghost use Rattle.compare_command.specs.Compared.{Compares, ComparesBeside, IsCompareCause, SaysFound, SaysOf, left_behind};
+
+use crate::texts::{difference_text, gave_up_text, same_text};
+use allocation::Memory;
+use answers::Certified;
+use check_command::certified;
+use command_results::{Said, Stop};
+use folders::Folder;
+use isomorphisms::{Comparison, compared};
+use std::alloc::{AllocError, Global};
+use streams::Source;
+
+/// The most lists of images that a comparison tries.
+pub const MOST_LISTS: u64 = 100_000;
+
+/// Whether the two quotients are isomorphic.
+fn said_of(alloc: Global, a: &Certified, b: &Certified) -> Result<Said, Memory>
+    ensures { IfOk result (λ s. SaysOf a.now b.now s.text.items s.succeeds) }
+{
+    match compared(alloc, a, b, MOST_LISTS)? {
+        Comparison::Same(map) => Ok(Said::done(same_text(alloc, map.as_slice())?)),
+        Comparison::Different(why) => {
+            Ok(Said::no(difference_text(alloc, a, b, why)?.into_bytes()))
+        }
+        Comparison::Long => Ok(Said::no(gave_up_text(alloc)?.into_bytes())),
+    }
+}
+
+/// A no behind the word that says of which certificate it is.
+fn no_of(alloc: Global, which: &str, no: &[u8]) -> Result<Said, AllocError>
+    ensures text { IfOk result (λ s. s.text.items ≡ which.now ++ no.now) }
+    ensures succeeds { IfOk result (λ s. s.succeeds ≡ false) }
+{
+    let mut text = Vec::with_capacity(alloc, no.len())?;
+    text.extend_from_slice(which.as_bytes())?;
+    text.extend_from_slice(no)?;
+    Ok(Said::no(text))
+}
+
+/// What is said of the two quotients, of which the second was found, or why it wasn't.
+fn said_beside(
+    alloc: Global,
+    a: &Certified,
+    found: Result<Certified, Vec<u8>>,
+) -> Result<Said, Memory>
+    ensures { IfOk result (λ s. SaysFound a.now found s.text.items s.succeeds) }
+{
+    match found {
+        Ok(b) => said_of(alloc, a, &b),
+        Err(no) => Ok(no_of(alloc, "second: ", &no)?),
+    }
+}
+
+/// Compares the quotient with that which the second file certifies.
+fn compare_beside<'a, F: Folder, S: Source>(
+    alloc: Global,
+    a: &Certified,
+    second: Option<&'a str>,
+    limit: u32,
+    folder: &mut F,
+    input: &mut S,
+) -> Result<Said, Stop<'a>>
+    ensures compares { let named = option_map (λ f. f.now) second.entry in
+        IfOk result (λ s. ComparesBeside a.now (AreGiven (S.left input.old) (F.files folder.old) named)
+        limit s.text.items s.succeeds) }
+    ensures kept { F.files folder.new ≡ F.files folder.old }
+    ensures stops { IfErr result (IsGivenCause (option_map (λ f. f.now) second.entry)
+        (failed (S.failures input.old) (F.failed_reads folder.old))
+        (failed (S.failures input.new) (F.failed_reads folder.new))) }
+    ensures input { is_none (option_map (λ f. f.now) second.entry) ≡ false → input.new ≡ input.old }
+    ensures folder { is_some (option_map (λ f. f.now) second.entry) ≡ false
+        → folder.new ≡ folder.old }
+{
+    let found = certified(alloc, second, limit, folder, input)?;
+    match said_beside(alloc, a, found) {
+        Ok(said) => Ok(said),
+        Err(Memory) => Err(Stop::Memory),
+    }
+}
+
+/// Compares the quotients that the two files certify under the limit, where one that isn't named is
+/// on standard input: that they are isomorphic as bipartite monoids, with the image of each element
+/// of the first; or that they aren't, and what tells them apart; or that there are more lists of
+/// images than are tried; or why a certificate isn't accepted, the first one's no where both aren't.
+pub fn compare<'a, F: Folder, S: Source>(
+    alloc: Global,
+    first: Option<&'a str>,
+    second: Option<&'a str>,
+    limit: u32,
+    folder: &mut F,
+    input: &mut S,
+) -> Result<Said, Stop<'a>>
+    ensures compares { let one = option_map (λ f. f.now) first.entry in
+        let other = option_map (λ f. f.now) second.entry in
+        IfOk result (λ s. Compares (AreGiven (S.left input.old) (F.files folder.old) one)
+        (AreGiven (left_behind one (S.left input.old)) (F.files folder.old) other) limit
+        s.text.items s.succeeds) }
+    ensures kept { F.files folder.new ≡ F.files folder.old }
+    ensures stops { IfErr result (IsCompareCause (option_map (λ f. f.now) first.entry)
+        (option_map (λ f. f.now) second.entry)
+        (failed (S.failures input.old) (F.failed_reads folder.old))
+        (failed (S.failures input.new) (F.failed_reads folder.new))) }
+    ensures input { (is_none (option_map (λ f. f.now) first.entry)
+        || is_none (option_map (λ f. f.now) second.entry)) ≡ false → input.new ≡ input.old }
+    ensures folder { (is_some (option_map (λ f. f.now) first.entry)
+        || is_some (option_map (λ f. f.now) second.entry)) ≡ false → folder.new ≡ folder.old }
+{
+    match certified(alloc, first, limit, folder, input)? {
+        Ok(a) => compare_beside(alloc, &a, second, limit, folder, input),
+        Err(no) => {
+            let said = no_of(alloc, "first: ", &no)?;
+            Ok(said)
+        }
+    }
+}
