@@ -1,9 +1,9 @@
 -- What is said of two quotients, from what was found.
 use Rattle.std.proofs.Common.{◌≡◌, ◌++◌, ℕ, Bool, false, List, Option, Some, None, Result, Ok, Err, Vec, codes, refl, subst}
-use Rattle.std.specs.Prelude.{is_none}
+use Rattle.std.specs.Prelude.{IfErr, is_none}
 use Rattle.misere_theory.specs.Certificates.{Certificate}
 use Rattle.check_command.specs.Checks.{AreGiven, Finds}
-use Rattle.compare_command.specs.Compared.{Compares, ComparesBeside, SaysFound, left_behind}
+use Rattle.compare_command.specs.Compared.{Compares, ComparesBeside, IsAccepted, SaysFound, left_behind}
 use Rattle.compare_command.specs.Compared.Compares.{Beside, NoFirst}
 use Rattle.compare_command.specs.Compared.ComparesBeside.{Quotient, NoQuotient}
 
@@ -60,3 +60,14 @@ pub compares_no : {A : Type 0} (Are Other : List ℕ → Type 0) (limit : ℕ)
 compares_no {A = A} Are Other limit q refused text succeeds found is same ill =
     NoFirst refused.items
     (subst (λ (r : Result Certificate (Vec ℕ A)). Finds Are limit r) is found) same ill
+
+pub found_accepted : {A : Type 0} (Are : List ℕ → Type 0) (limit : ℕ)
+    (q : Result Certificate (Vec ℕ A)) (c : Certificate) → Finds Are limit q → q ≡ Ok c
+    → IsAccepted Are limit
+found_accepted {A = A} Are limit q c found is =
+    (c, subst (λ (r : Result Certificate (Vec ℕ A)). Finds Are limit r) is found)
+
+-- what is true of each error is true of that of a result
+pub of_each_error : {X E : Type 0} (r : Result X E) (P : E → Type 0) → ((e : E) → P e) → IfErr r P
+of_each_error (Ok x) P all = tt
+of_each_error (Err e) P all = all e

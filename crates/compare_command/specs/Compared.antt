@@ -53,6 +53,10 @@ left_behind (Some file) left = left
 
 -- ---- why nothing is said
 
+-- such bytes certify a quotient under the limit
+abbrev pub IsAccepted : (List ℕ → Type 0) → ℕ → Type 0
+IsAccepted Are limit = (c : Certificate) × Certifies Are limit c
+
 -- the one certificate isn't read, or the other, for its own cause; or memory was wanting
 abbrev pub IsCompareCause : Option (List ℕ) → Option (List ℕ) → Failed → Failed → Stop → Type 0
 IsCompareCause first second before after stop =

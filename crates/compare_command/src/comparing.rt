@@ -1,7 +1,7 @@
 //! The comparison of the quotients of two files.
-ghost use Rattle.std.specs.Prelude.{◌≡◌, ◌++◌, ◌||◌, false, IfOk, IfErr, is_none, is_some, option_map};
+ghost use Rattle.std.specs.Prelude.{◌≡◌, ◌⊎◌, ◌++◌, ◌||◌, false, IfOk, IfErr, is_none, is_some, option_map};
 ghost use Rattle.check_command.specs.Checks.{AreGiven, IsGivenCause, failed};
-ghost use Rattle.compare_command.specs.Compared.{Compares, ComparesBeside, IsCompareCause, SaysFound, SaysOf, left_behind};
+ghost use Rattle.compare_command.specs.Compared.{Compares, ComparesBeside, IsAccepted, IsCompareCause, SaysFound, SaysOf, left_behind};
 
 use crate::texts::{difference_text, gave_up_text, same_text};
 use allocation::Memory;
@@ -103,6 +103,11 @@ pub fn compare<'a, F: Folder, S: Source>(
         (option_map (λ f. f.now) second.entry)
         (failed (S.failures input.old) (F.failed_reads folder.old))
         (failed (S.failures input.new) (F.failed_reads folder.new))) }
+    ensures order { let one = option_map (λ f. f.now) first.entry in
+        IfErr result (λ stop. IsGivenCause one
+        (failed (S.failures input.old) (F.failed_reads folder.old))
+        (failed (S.failures input.new) (F.failed_reads folder.new)) stop
+        ⊎ IsAccepted (AreGiven (S.left input.old) (F.files folder.old) one) limit) }
     ensures input { (is_none (option_map (λ f. f.now) first.entry)
         || is_none (option_map (λ f. f.now) second.entry)) ≡ false → input.new ≡ input.old }
     ensures folder { (is_some (option_map (λ f. f.now) first.entry)

@@ -1,10 +1,10 @@
-use Rattle.std.proofs.Common.{◌∙◌, ◌++◌, ℕ, List, Bor, ap, codes, subst}
+use Rattle.std.proofs.Common.{◌∙◌, ◌++◌, ℕ, List, Bor, ap, codes, inr, subst}
 use Rattle.std.specs.Prelude.{option_map}
 use Rattle.std.proofs.lemmas.Result.{IfOk-weaker}
 use Rattle.check_command.specs.Checks.{AreGiven}
 use Rattle.command_results.specs.declared.said.Said.{Said}
 use Rattle.compare_command.specs.Compared.{Compares, ComparesBeside, left_behind}
-use Rattle.compare_command.proofs.Found.{compares_beside, compares_no}
+use Rattle.compare_command.proofs.Found.{compares_beside, compares_no, found_accepted, of_each_error}
 use Rattle.compare_command.proofs.comparing.compare.Goals as goal
 
 pub returns-in-Ok-clause-compares : goal.returns-in-Ok-clause-compares
@@ -39,3 +39,12 @@ returns-in_ok-said-in-Err-clause-compares g c =
     (c.in_ok-said-in-Err.ensures.text
     ∙ ap (λ (t : List ℕ). codes "first: " ++ t) c.deref.ensures.value)
     c.in_ok-said-in-Err.ensures.succeeds
+
+pub returns-in-Ok-clause-order : goal.returns-in-Ok-clause-order
+returns-in-Ok-clause-order g c =
+    let one = option_map (λ (f : Bor (List ℕ)). f.now) c.args.first in
+    let left = g.S.Source.left c.args.input.now in
+    let files = g.F.Folder.files c.args.folder.now in
+    of_each_error c.compare_beside.result _
+    (λ stop. inr (found_accepted (AreGiven left files one) c.args.limit c.in_ok-a.field-0 c.in-Ok.a
+    c.in_ok-a.ensures.found c.in-Ok.is))
