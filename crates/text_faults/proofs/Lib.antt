@@ -1,0 +1,5 @@
+mod Cuts
+mod Words
+mod Lines
+mod Ends
+mod Refused

@@ -1,0 +1,12 @@
+use Rattle.std.proofs.Common.{◌≤◌, ◌+◌, ℕ, List, length}
+use Rattle.text_faults.specs.Faults.{HasLine}
+use Rattle.text_faults.proofs.finding.fault_in_lines.Given as goal
+
+abbrev pub invariant-loop-rest : goal.invariant-loop-rest
+invariant-loop-rest l =
+    ((n : ℕ) (line behind : List ℕ) → HasLine l.rest n line behind
+    → HasLine l.bytes (l.number + n) line behind)
+    × (l.number + length l.rest ≤ length l.bytes)
+
+abbrev pub decreases-loop-rest : goal.decreases-loop-rest
+decreases-loop-rest l = length l.rest

@@ -1,0 +1,44 @@
+//! What is wrong with a text.
+ghost use Rattle.std.specs.Prelude.{◌≡◌, IfSome};
+ghost use Rattle.text_faults.specs.Faults.{IsFault, LineHasFault};
+
+use crate::fault::WrittenFault;
+use crate::line::line_fault;
+use crate::parts::first_line;
+
+/// What is wrong with the first line that has such a fault.
+fn fault_in_lines(bytes: &[u8]) -> Option<WrittenFault>
+    ensures { IfSome result (LineHasFault bytes.now) }
+{
+    let mut rest = bytes;
+    let mut number = 0;
+    while !rest.is_empty() {
+        let (line, behind) = first_line(rest);
+        number += 1;
+        if let Some(fault) = line_fault(number, line, behind) {
+            return Some(fault);
+        }
+        rest = behind;
+    }
+    None
+}
+
+/// What is wrong with a text: what is wrong with its first line that has one of these faults, or
+/// else how it ends. Nothing says that a text without these faults is a certificate's.
+pub fn text_fault(bytes: &[u8]) -> Option<WrittenFault>
+    ensures { IfSome result (IsFault bytes.now) }
+{
+    if bytes.is_empty() {
+        return Some(WrittenFault::Empty);
+    }
+    if let Some(fault) = fault_in_lines(bytes) {
+        return Some(fault);
+    }
+    if !bytes.ends_with(b"\n") {
+        return Some(WrittenFault::NoEnd);
+    }
+    if !bytes.ends_with(b"end\n") {
+        return Some(WrittenFault::Unfinished);
+    }
+    None
+}
