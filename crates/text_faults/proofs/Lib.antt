@@ -1,4 +1,5 @@
 mod Cuts
+mod Orders
 mod Words
 mod Lines
 mod Ends

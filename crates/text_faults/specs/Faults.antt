@@ -1,7 +1,8 @@
 -- What is wrong with a text that isn't a certificate's, and in which line. This project's own.
-use Rattle.std.specs.Prelude.{◌≡◌, ◌≢◌, ◌⊎◌, ◌≤◌, ◌<◌, ◌+◌, ◌==◌, ◌&&◌, ◌||◌, nat_le, ℕ, suc, Bool, false, List, [], ◌∷◌, ◌++◌, All, length, slice_index, if◌then◌else◌, codes}
+use Rattle.std.specs.Prelude.{◌≡◌, ◌≢◌, ◌⊎◌, ◌≤◌, ◌<◌, ◌+◌, ◌==◌, ◌&&◌, ◌||◌, ◌*◌, ◌-◌, ◌/◌, nat_le, ℕ, suc, Bool, false, List, [], ◌∷◌, ◌++◌, All, length, slice_index, Option, Some, IfSome, if◌then◌else◌, codes}
+use Rattle.certificate_text.specs.Lines.{IsNumber}
 use Rattle.text_faults.specs.declared.fault.WrittenFault.{WrittenFault}
-use Rattle.text_faults.specs.declared.fault.WrittenFault.TheVariants.{Empty, NoEnd, Unfinished, Byte, Blank, Space, Name, Words, Behind}
+use Rattle.text_faults.specs.declared.fault.WrittenFault.TheVariants.{Empty, NoEnd, Unfinished, Byte, Blank, Space, Name, Other, Words, Rows, Behind}
 
 -- ---- lines
 
@@ -58,29 +59,58 @@ abbrev pub spaces : List ℕ → ℕ
 spaces [] = 0
 spaces (b ∷ bs) = if b == 32 then suc (spaces bs) else spaces bs
 
+-- ---- what the third line says
+
+-- the line says this order
+abbrev pub IsOrderLine : List ℕ → ℕ → Type 0
+IsOrderLine line order =
+    (digits : List ℕ) × (line ≡ codes "order " ++ digits) × IsNumber digits order
+
+abbrev pub SaysOrder : List ℕ → ℕ → Type 0
+SaysOrder bytes order =
+    (line : List ℕ) × (rest : List ℕ) × HasLine bytes 3 line rest × IsOrderLine line order
+
+-- So many words should stand behind the name of the line: one in the first five lines; and if the
+-- order is known, a key for each element above 0, a number for each element in a row, and one for
+-- each two elements in the line of the separators.
+pub data IsWanted (order : Option ℕ) (number : ℕ) (line : List ℕ) (wanted : ℕ) : Type 0 where
+  OfOne : number ≤ 5 → wanted ≡ 1 → IsWanted order number line wanted
+  OfKeys : order ≡ Some (wanted + 1) → number ≡ 8 → IsWanted order number line wanted
+  OfRow : order ≡ Some wanted → IsNamed line (codes "row") → IsWanted order number line wanted
+  OfApart : (n : ℕ) → order ≡ Some n → wanted ≡ n * (n - 1) / 2 → IsNamed line (codes "apart")
+      → IsWanted order number line wanted
+
 -- ---- faults
 
--- the line of this number, which the rest stands behind, has this fault
-abbrev pub IsLineFault : (number : ℕ) (line rest : List ℕ) → WrittenFault → Type 0
-IsLineFault number line rest (Byte at byte) =
+-- Where this order is known, the line of this number, which the rest stands behind, has this fault.
+abbrev pub IsLineFault : (order : Option ℕ) (number : ℕ) (line rest : List ℕ) → WrittenFault → Type 0
+IsLineFault order number line rest (Byte at byte) =
     (at ≡ number) × HasByte line byte × (is_text_byte byte ≡ false)
-IsLineFault number line rest (Blank at) = (at ≡ number) × (line ≡ [])
-IsLineFault number line rest (Space at) = (at ≡ number) × HasStraySpace line
-IsLineFault number line rest (Name at) =
+IsLineFault order number line rest (Blank at) = (at ≡ number) × (line ≡ [])
+IsLineFault order number line rest (Space at) = (at ≡ number) × HasStraySpace line
+IsLineFault order number line rest (Name at) =
     (at ≡ number) × (number ≤ 8) × (IsNamed line (name_at number) → ⊥)
-IsLineFault number line rest (Words at found wanted) =
-    (at ≡ number) × (number ≤ 5) × (found ≡ spaces line) × (wanted ≡ 1) × (found ≢ wanted)
-IsLineFault number line rest (Behind at) =
+IsLineFault order number line rest (Other at) =
+    (at ≡ number) × (8 < number) × (IsNamed line (codes "row") → ⊥)
+    × (IsNamed line (codes "apart") → ⊥) × (IsNamed line (codes "end") → ⊥)
+IsLineFault order number line rest (Words at found wanted) =
+    (at ≡ number) × IsWanted order number line wanted × (found ≡ spaces line) × (found ≢ wanted)
+IsLineFault order number line rest (Rows at found wanted) =
+    (at ≡ number) × (order ≡ Some wanted) × IsNamed line (codes "apart")
+    × (number ≡ 9 + found) × (found ≢ wanted)
+IsLineFault order number line rest (Behind at) =
     (at ≡ number + 1) × (line ≡ codes "end") × (rest ≢ [])
-IsLineFault number line rest _ = ⊥
+IsLineFault order number line rest _ = ⊥
 
 -- a line has this fault
 pub record LineHasFault (bytes : List ℕ) (fault : WrittenFault) : Type 0 where
+  pub order : Option ℕ
   pub number : ℕ
   pub line : List ℕ
   pub rest : List ℕ
+  pub says_order : IfSome order (SaysOrder bytes)
   pub has_line : HasLine bytes number line rest
-  pub is_fault : IsLineFault number line rest fault
+  pub is_fault : IsLineFault order number line rest fault
 
 -- the text has this fault
 pub data IsFault (bytes : List ℕ) : WrittenFault → Type 0 where

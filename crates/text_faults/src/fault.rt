@@ -26,8 +26,18 @@ pub enum WrittenFault {
     Name {
         line: usize,
     },
+    /// The line, one behind the first eight, begins with neither `row` nor `apart` nor `end`.
+    Other {
+        line: usize,
+    },
     /// The line has so many words behind its name, and not as many as it should have.
     Words {
+        line: usize,
+        found: usize,
+        wanted: usize,
+    },
+    /// So many rows stand before the line `apart`, and not as many as the order says.
+    Rows {
         line: usize,
         found: usize,
         wanted: usize,

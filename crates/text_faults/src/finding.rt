@@ -4,6 +4,7 @@ ghost use Rattle.text_faults.specs.Faults.{IsFault, LineHasFault};
 
 use crate::fault::WrittenFault;
 use crate::line::line_fault;
+use crate::order::order_behind;
 use crate::parts::first_line;
 
 /// What is wrong with the first line that has such a fault.
@@ -12,12 +13,14 @@ fn fault_in_lines(bytes: &[u8]) -> Option<WrittenFault>
 {
     let mut rest = bytes;
     let mut number = 0;
+    let mut order = None;
     while !rest.is_empty() {
         let (line, behind) = first_line(rest);
         number += 1;
-        if let Some(fault) = line_fault(number, line, behind) {
+        if let Some(fault) = line_fault(order, number, line, behind) {
             return Some(fault);
         }
+        order = order_behind(order, number, line);
         rest = behind;
     }
     None

@@ -5,8 +5,10 @@ mod fault;
 mod finding;
 mod laws;
 mod line;
+mod order;
 mod parts;
 
 pub use fault::WrittenFault;
 pub use finding::text_fault;
 pub use laws::faults_refuse;
+pub use parts::name_at;

@@ -1,19 +1,19 @@
 //! What is wrong with a line.
-ghost use Rattle.std.specs.Prelude.{◌↔◌, ◌<◌, ◌+◌, ◌^◌, IfSome, IsTrue};
-ghost use Rattle.text_faults.specs.Faults.{IsLineFault, IsNamed, name_at};
+ghost use Rattle.std.specs.Prelude.{◌<◌, ◌+◌, ◌^◌, IfSome};
+ghost use Rattle.text_faults.specs.Faults.{IsLineFault};
 
 use crate::fault::WrittenFault;
-use crate::parts::{first_word, has_stray_space, name_at, spaces, strange_byte};
-
-fn is_named(number: usize, line: &[u8]) -> bool
-    ensures { IsTrue result ↔ IsNamed line.now (name_at number) }
-{
-    first_word(line).0 == name_at(number).as_bytes()
-}
+use crate::order::wanted_words;
+use crate::parts::{has_stray_space, is_called, name_at, spaces, strange_byte};
 
 /// What is wrong with the bytes of the line.
-fn fault_of_bytes(number: usize, line: &[u8], rest: &[u8]) -> Option<WrittenFault>
-    ensures { IfSome result (IsLineFault number line.now rest.now) }
+fn fault_of_bytes(
+    order: Option<usize>,
+    number: usize,
+    line: &[u8],
+    rest: &[u8],
+) -> Option<WrittenFault>
+    ensures { IfSome result (IsLineFault order number line.now rest.now) }
 {
     if let Some(byte) = strange_byte(line) {
         return Some(WrittenFault::Byte { line: number, byte });
@@ -27,35 +27,96 @@ fn fault_of_bytes(number: usize, line: &[u8], rest: &[u8]) -> Option<WrittenFaul
     None
 }
 
-/// What is wrong with the words of the line.
-fn fault_of_words(number: usize, line: &[u8], rest: &[u8]) -> Option<WrittenFault>
-    requires { number + 1 < 2 ^ 64 }
-    ensures { IfSome result (IsLineFault number line.now rest.now) }
+/// What is wrong with the name of the line.
+fn fault_of_name(
+    order: Option<usize>,
+    number: usize,
+    line: &[u8],
+    rest: &[u8],
+) -> Option<WrittenFault>
+    ensures { IfSome result (IsLineFault order number line.now rest.now) }
 {
-    if number <= 8 && !is_named(number, line) {
+    if number <= 8 {
+        if is_called(line, name_at(number)) {
+            return None;
+        }
         return Some(WrittenFault::Name { line: number });
     }
-    let found = spaces(line);
-    if number <= 5 && found != 1 {
-        return Some(WrittenFault::Words {
-            line: number,
-            found,
-            wanted: 1,
-        });
+    if is_called(line, "row") || is_called(line, "apart") || is_called(line, "end") {
+        return None;
     }
+    Some(WrittenFault::Other { line: number })
+}
+
+/// What is wrong with the number of the line's words.
+fn fault_of_words(
+    order: Option<usize>,
+    number: usize,
+    line: &[u8],
+    rest: &[u8],
+) -> Option<WrittenFault>
+    requires { IfSome order (λ n. n < 10000) }
+    ensures { IfSome result (IsLineFault order number line.now rest.now) }
+{
+    let wanted = wanted_words(order, number, line)?;
+    let found = spaces(line);
+    if found == wanted {
+        return None;
+    }
+    Some(WrittenFault::Words {
+        line: number,
+        found,
+        wanted,
+    })
+}
+
+/// What is wrong with the place of the line.
+fn fault_of_place(
+    order: Option<usize>,
+    number: usize,
+    line: &[u8],
+    rest: &[u8],
+) -> Option<WrittenFault>
+    requires { number + 1 < 2 ^ 64 }
+    ensures { IfSome result (IsLineFault order number line.now rest.now) }
+{
     if line == b"end".as_slice() && !rest.is_empty() {
         return Some(WrittenFault::Behind { line: number + 1 });
+    }
+    if let Some(wanted) = order
+        && number > 8
+        && number - 9 != wanted
+        && is_called(line, "apart")
+    {
+        return Some(WrittenFault::Rows {
+            line: number,
+            found: number - 9,
+            wanted,
+        });
     }
     None
 }
 
-/// What is wrong with the line of this number, which the rest of the text stands behind.
-pub fn line_fault(number: usize, line: &[u8], rest: &[u8]) -> Option<WrittenFault>
-    requires { number + 1 < 2 ^ 64 }
-    ensures { IfSome result (IsLineFault number line.now rest.now) }
+/// What is wrong with the line of this number, which the rest of the text stands behind, where this
+/// order is known.
+pub fn line_fault(
+    order: Option<usize>,
+    number: usize,
+    line: &[u8],
+    rest: &[u8],
+) -> Option<WrittenFault>
+    requires order { IfSome order (λ n. n < 10000) }
+    requires number { number + 1 < 2 ^ 64 }
+    ensures { IfSome result (IsLineFault order number line.now rest.now) }
 {
-    match fault_of_bytes(number, line, rest) {
-        Some(fault) => Some(fault),
-        None => fault_of_words(number, line, rest),
+    if let Some(fault) = fault_of_bytes(order, number, line, rest) {
+        return Some(fault);
     }
+    if let Some(fault) = fault_of_name(order, number, line, rest) {
+        return Some(fault);
+    }
+    if let Some(fault) = fault_of_words(order, number, line, rest) {
+        return Some(fault);
+    }
+    fault_of_place(order, number, line, rest)
 }

@@ -1,6 +1,6 @@
 //! Lines, and what they are made of.
 ghost use Rattle.std.specs.Prelude.{◌≡◌, ◌↔◌, ◌<◌, ℕ, IsTrue, MatchOption, length, true, false};
-ghost use Rattle.text_faults.specs.Faults.{HasByte, HasStraySpace, IsCut, IsStray, is_text_byte, name_at, spaces};
+ghost use Rattle.text_faults.specs.Faults.{HasByte, HasStraySpace, IsCut, IsNamed, IsStray, is_text_byte, name_at, spaces};
 
 /// The bytes up to the first LF, and those behind it; all of them and none where there is no LF.
 pub fn first_line(bytes: &[u8]) -> (&[u8], &[u8])
@@ -91,4 +91,11 @@ pub fn name_at(line: usize) -> &'static str
         8 => "words",
         _ => "",
     }
+}
+
+/// Whether the line has this name.
+pub fn is_called(line: &[u8], name: &str) -> bool
+    ensures { IsTrue result ↔ IsNamed line.now name.now }
+{
+    first_word(line).0 == name.as_bytes()
 }

@@ -2,6 +2,7 @@ use Rattle.std.proofs.Common.{◌≡◌, ◌+◌, ℕ, suc, arith, subst}
 use Rattle.text_faults.specs.Faults.{HasLine}
 use Rattle.text_faults.specs.Faults.HasLine.{First, Later}
 use Rattle.text_faults.proofs.Cuts.{cut_shorter, not_empty}
+use Rattle.text_faults.proofs.Orders.{order_known}
 use Rattle.text_faults.proofs.finding.fault_in_lines.Goals as goal
 
 pub returns-in-Some : goal.returns-in-Some
@@ -9,6 +10,8 @@ returns-in-Some c =
     let some = not_empty c.is_empty.result c.loop-rest.rest.now c.loop-rest-test.true
     c.is_empty.ensures in
     record {
+      order = c.loop-rest.order;
+      says_order = c.loop-rest.invariant.2;
       number = c.loop-rest.number + 1;
       line = c.first_line.result.0.now;
       rest = c.first_line.result.1.now;
@@ -25,8 +28,13 @@ loop-rest-preserved c =
           let k : c.loop-rest.number + suc n ≡ c.loop-rest.number + 1 + n = omega arith in
           subst (λ (m : ℕ). HasLine c.args.bytes.now m line behind) k
           (c.loop-rest.invariant.0 (suc n) line behind (Later c.first_line.ensures h))),
-      let less = cut_shorter 10 c.loop-rest.rest.now c.first_line.result.0.now
+      (let less = cut_shorter 10 c.loop-rest.rest.now c.first_line.result.0.now
           c.first_line.result.1.now some c.first_line.ensures in
           let most = c.loop-rest.invariant.1 in
-          omega (arith, less, most),
+          omega (arith, less, most)),
+      order_known c.args.bytes.now c.loop-rest.order c.order_behind-order.result
+          (c.loop-rest.number + 1) c.first_line.result.0.now c.first_line.result.1.now
+          (c.loop-rest.invariant.0 1 c.first_line.result.0.now c.first_line.result.1.now
+          (First some c.first_line.ensures)) c.loop-rest.invariant.2 c.order_behind-order.ensures.order,
+      c.order_behind-order.ensures.small,
     )
