@@ -1,8 +1,7 @@
 //! `explain`: why the text of a file is no certificate's.
-ghost use Rattle.std.specs.Prelude.{◌≡◌, ◌≤◌, false, IfOk, IfErr, is_none, is_some, length, option_map};
+ghost use Rattle.std.specs.Prelude.{◌≡◌, false, IfOk, IfErr, is_none, is_some, option_map};
 ghost use Rattle.std.specs.String.{string_bytes};
 ghost use Rattle.check_command.specs.Checks.{AreGiven, IsGivenCause, failed};
-ghost use Rattle.verdict_texts.specs.declared.stream.TheConstants.{MOST_BYTES};
 ghost use Rattle.explain_command.specs.Explained.{Explains, ExplainsGiven, IsAnswerOf, TellsFault};
 
 use crate::lines::fault_text;
