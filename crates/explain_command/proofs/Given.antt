@@ -29,7 +29,7 @@ long_tells : (front bytes text : List ℕ) → MOST_BYTES < length front → MOS
     → TellsFault front text → TellsFault bytes text
 long_tells front bytes text long more (IsLong m e) = IsLong more e
 long_tells front bytes text long more (HasFault f few h e) = absurd (omega (arith, long, few))
-long_tells front bytes text long more (IsUnknown few e) = absurd (omega (arith, long, few))
+long_tells front bytes text long more (IsUnknown few plain e) = absurd (omega (arith, long, few))
 
 long_explains : AreShort → (front bytes text : List ℕ) (succeeds : Bool) → MOST_BYTES < length front
     → MOST_BYTES < length bytes → Explains front text succeeds

@@ -3,7 +3,7 @@ use Rattle.std.specs.Prelude.{◌≡◌, ◌<◌, ◌≤◌, ◌==◌, ℕ, Bool
 use Rattle.misere_theory.specs.Certificates.{Certificate}
 use Rattle.certificate_text.specs.Spelling.{Spells}
 use Rattle.verdict_texts.specs.declared.stream.TheConstants.{MOST_BYTES}
-use Rattle.text_faults.specs.Faults.{IsFault, name_at}
+use Rattle.text_faults.specs.Faults.{IsFault, IsPlainText, name_at}
 use Rattle.text_faults.specs.declared.fault.WrittenFault.{WrittenFault}
 use Rattle.text_faults.specs.declared.fault.WrittenFault.TheVariants.{Empty, NoEnd, Unfinished, Byte, Blank, Space, Name, Other, Words, Rows, Behind}
 
@@ -76,14 +76,15 @@ abbrev pub IsAnswerOf : List ℕ → Bool → Type 0
 IsAnswerOf bytes true = (c : Certificate) × Spells bytes c
 IsAnswerOf bytes false = IsNoText bytes
 
--- The line says what is wrong with the bytes, and that is so; or that nothing was found.
+-- The line says what is wrong with the bytes, and that is so; or that nothing was found, and then they
+-- are a plain text.
 pub data TellsFault (bytes text : List ℕ) : Type 0 where
   IsLong : MOST_BYTES < length bytes → text ≡ codes "more than 4194304 bytes\n"
       → TellsFault bytes text
   HasFault : (fault : WrittenFault) → length bytes ≤ MOST_BYTES → IsFault bytes fault
       → text ≡ fault_line fault
       → TellsFault bytes text
-  IsUnknown : length bytes ≤ MOST_BYTES
+  IsUnknown : length bytes ≤ MOST_BYTES → IsPlainText bytes
       → text ≡ codes "not a certificate's text, and none of the faults that are looked for\n"
       → TellsFault bytes text
 

@@ -1,5 +1,6 @@
 mod Cuts
 mod Orders
+mod Passed
 mod Words
 mod Lines
 mod Ends

@@ -1,11 +1,12 @@
 -- The lines of a text, by their numbers.
-use Rattle.std.proofs.Common.{◌≡◌, ◌≤◌, ◌<◌, ◌+◌, ◌-◌, ◌*◌, ◌/◌, ◌∙◌, ◌⊎◌, inl, inr, ℕ, suc, List, [], ◌∷◌, ◌++◌, append_assoc, arith, codes, length, subst, sym}
+use Rattle.std.proofs.Common.{◌≡◌, ◌≤◌, ◌<◌, ◌+◌, ◌-◌, ◌*◌, ◌/◌, ◌∙◌, ◌⊎◌, inl, ℕ, suc, List, [], ◌∷◌, append_assoc, arith, codes, length, subst, sym}
 use Rattle.misere_theory.specs.Certificates.{Certificate}
 use Rattle.certificate_text.specs.Lines.{IsNumber}
 use Rattle.certificate_text.specs.Spelling.{Line, spaced, text}
 use Rattle.text_faults.specs.Faults.{HasLine, IsCut, name_at}
 use Rattle.text_faults.specs.Faults.HasLine.{First, Later}
 use Rattle.text_faults.proofs.Cuts.{cut_same}
+use Rattle.text_faults.proofs.Passed.{no_line}
 use Rattle.text_faults.proofs.Words.{IsTidy, line_bytes, no_end}
 
 -- what the line of this number is, before these lines
@@ -26,19 +27,6 @@ pub record IsRight (c : Certificate) (n : ℕ) (l : Line) (behind : List Line) :
 abbrev pub AreRight : Certificate → ℕ → List Line → Type 0
 AreRight c k [] = Unit {0}
 AreRight c k (l ∷ ls) = IsRight c (k + 1) l ls × AreRight c (k + 1) ls
-
-some_end : (u x : List ℕ) → [] ≡ u ++ 10 ∷ x → ⊥
-some_end [] x e = absurd cc
-some_end (b ∷ u) x e = absurd cc
-
-cut_nothing : (bytes u x : List ℕ) → bytes ≡ [] → IsCut 10 bytes u x → x ≡ []
-cut_nothing bytes u x none h =
-    elim h.1 [ inl e ↦ absurd (some_end u x (sym none ∙ e)) | inr e ↦ e.1 ]
-
-no_line : {bytes line rest : List ℕ} {n : ℕ} → HasLine bytes n line rest → bytes ≡ [] → ⊥
-no_line (First some cut) none = some none
-no_line (Later {bytes = bytes} {first = first} {behind = behind} cut h) none =
-    no_line h (cut_nothing bytes first behind none cut)
 
 cut_of : (bytes : List ℕ) (l : Line) (ls : List Line) → IsTidy l → bytes ≡ text (l ∷ ls)
     → IsCut 10 bytes (line_bytes l) (text ls)

@@ -1,5 +1,5 @@
 -- What is wrong with a text that isn't a certificate's, and in which line. This project's own.
-use Rattle.std.specs.Prelude.{◌≡◌, ◌≢◌, ◌⊎◌, ◌≤◌, ◌<◌, ◌+◌, ◌==◌, ◌&&◌, ◌||◌, ◌*◌, ◌-◌, ◌/◌, nat_le, ℕ, suc, Bool, false, List, [], ◌∷◌, ◌++◌, All, length, slice_index, Option, Some, IfSome, if◌then◌else◌, codes}
+use Rattle.std.specs.Prelude.{◌≡◌, ◌≢◌, ◌⊎◌, ◌≤◌, ◌<◌, ◌+◌, ◌==◌, ◌&&◌, ◌||◌, ◌*◌, ◌-◌, ◌/◌, nat_le, ℕ, suc, Bool, true, false, List, [], ◌∷◌, ◌++◌, All, length, slice_index, Option, Some, IfSome, if◌then◌else◌, codes}
 use Rattle.certificate_text.specs.Lines.{IsNumber}
 use Rattle.text_faults.specs.declared.fault.WrittenFault.{WrittenFault}
 use Rattle.text_faults.specs.declared.fault.WrittenFault.TheVariants.{Empty, NoEnd, Unfinished, Byte, Blank, Space, Name, Other, Words, Rows, Behind}
@@ -112,9 +112,38 @@ pub record LineHasFault (bytes : List ℕ) (fault : WrittenFault) : Type 0 where
   pub has_line : HasLine bytes number line rest
   pub is_fault : IsLineFault order number line rest fault
 
--- the text has this fault
+-- The text has this fault.
 pub data IsFault (bytes : List ℕ) : WrittenFault → Type 0 where
   HasNoByte : bytes ≡ [] → IsFault bytes Empty
   HasNoEnd : ((x : List ℕ) → bytes ≢ x ++ codes "\n") → IsFault bytes NoEnd
   IsUnfinished : ((x : List ℕ) → bytes ≢ x ++ codes "end\n") → IsFault bytes Unfinished
   InLine : {fault : WrittenFault} → LineHasFault bytes fault → IsFault bytes fault
+
+-- ---- texts without faults
+
+-- the line has bytes of texts, at least one, and no space too many
+abbrev pub HasPlainBytes : List ℕ → Type 0
+HasPlainBytes line =
+    ((b : ℕ) → HasByte line b → is_text_byte b ≡ true) × (line ≢ []) × (HasStraySpace line → ⊥)
+
+-- the line of this number begins with its name
+abbrev pub HasItsName : (number : ℕ) (line : List ℕ) → Type 0
+HasItsName number line =
+    (number ≤ 8 → IsNamed line (name_at number))
+    × (8 < number → IsNamed line (codes "row") ⊎ IsNamed line (codes "apart") ⊎ IsNamed line (codes "end"))
+
+-- The line of this number, which the rest stands behind, has none of the faults that don't go by the
+-- order.
+pub record IsPlainLine (number : ℕ) (line rest : List ℕ) : Type 0 where
+  pub plain : HasPlainBytes line
+  pub name : HasItsName number line
+  pub last : line ≡ codes "end" → rest ≡ []
+
+abbrev pub ArePlain : List ℕ → Type 0
+ArePlain bytes = (number : ℕ) (line rest : List ℕ) → HasLine bytes number line rest
+    → IsPlainLine number line rest
+
+-- The text has none of these faults, and ends with its line `end`.
+pub record IsPlainText (bytes : List ℕ) : Type 0 where
+  pub lines : ArePlain bytes
+  pub end : (x : List ℕ) × (bytes ≡ x ++ codes "end\n")

@@ -1,6 +1,6 @@
 //! What is wrong with a text.
-ghost use Rattle.std.specs.Prelude.{◌≡◌, IfSome};
-ghost use Rattle.text_faults.specs.Faults.{IsFault, LineHasFault};
+ghost use Rattle.std.specs.Prelude.{MatchOption};
+ghost use Rattle.text_faults.specs.Faults.{ArePlain, IsFault, IsPlainText, LineHasFault};
 
 use crate::fault::WrittenFault;
 use crate::line::line_fault;
@@ -9,7 +9,7 @@ use crate::parts::first_line;
 
 /// What is wrong with the first line that has such a fault.
 fn fault_in_lines(bytes: &[u8]) -> Option<WrittenFault>
-    ensures { IfSome result (LineHasFault bytes.now) }
+    ensures { MatchOption result (ArePlain bytes.now) (LineHasFault bytes.now) }
 {
     let mut rest = bytes;
     let mut number = 0;
@@ -27,9 +27,10 @@ fn fault_in_lines(bytes: &[u8]) -> Option<WrittenFault>
 }
 
 /// What is wrong with a text: what is wrong with its first line that has one of these faults, or
-/// else how it ends. Nothing says that a text without these faults is a certificate's.
+/// else how it ends. If it names none the text has none of those faults that don't go by the order;
+/// that isn't to say that it is a certificate's.
 pub fn text_fault(bytes: &[u8]) -> Option<WrittenFault>
-    ensures { IfSome result (IsFault bytes.now) }
+    ensures { MatchOption result (IsPlainText bytes.now) (IsFault bytes.now) }
 {
     if bytes.is_empty() {
         return Some(WrittenFault::Empty);

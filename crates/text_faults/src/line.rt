@@ -1,6 +1,6 @@
 //! What is wrong with a line.
-ghost use Rattle.std.specs.Prelude.{◌<◌, ◌+◌, ◌^◌, IfSome};
-ghost use Rattle.text_faults.specs.Faults.{IsLineFault};
+ghost use Rattle.std.specs.Prelude.{◌≡◌, ◌<◌, ◌+◌, ◌^◌, [], IfSome, MatchOption, codes};
+ghost use Rattle.text_faults.specs.Faults.{HasItsName, HasPlainBytes, IsLineFault, IsPlainLine};
 
 use crate::fault::WrittenFault;
 use crate::order::wanted_words;
@@ -13,7 +13,8 @@ fn fault_of_bytes(
     line: &[u8],
     rest: &[u8],
 ) -> Option<WrittenFault>
-    ensures { IfSome result (IsLineFault order number line.now rest.now) }
+    ensures { MatchOption result (HasPlainBytes line.now)
+        (IsLineFault order number line.now rest.now) }
 {
     if let Some(byte) = strange_byte(line) {
         return Some(WrittenFault::Byte { line: number, byte });
@@ -34,7 +35,8 @@ fn fault_of_name(
     line: &[u8],
     rest: &[u8],
 ) -> Option<WrittenFault>
-    ensures { IfSome result (IsLineFault order number line.now rest.now) }
+    ensures { MatchOption result (HasItsName number line.now)
+        (IsLineFault order number line.now rest.now) }
 {
     if number <= 8 {
         if is_called(line, name_at(number)) {
@@ -78,7 +80,8 @@ fn fault_of_place(
     rest: &[u8],
 ) -> Option<WrittenFault>
     requires { number + 1 < 2 ^ 64 }
-    ensures { IfSome result (IsLineFault order number line.now rest.now) }
+    ensures { MatchOption result (line.now ≡ codes "end" → rest.now ≡ [])
+        (IsLineFault order number line.now rest.now) }
 {
     if line == b"end".as_slice() && !rest.is_empty() {
         return Some(WrittenFault::Behind { line: number + 1 });
@@ -107,7 +110,8 @@ pub fn line_fault(
 ) -> Option<WrittenFault>
     requires order { IfSome order (λ n. n < 10000) }
     requires number { number + 1 < 2 ^ 64 }
-    ensures { IfSome result (IsLineFault order number line.now rest.now) }
+    ensures { MatchOption result (IsPlainLine number line.now rest.now)
+        (IsLineFault order number line.now rest.now) }
 {
     if let Some(fault) = fault_of_bytes(order, number, line, rest) {
         return Some(fault);

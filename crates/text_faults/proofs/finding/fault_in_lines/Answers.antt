@@ -1,7 +1,8 @@
 use Rattle.std.proofs.Common.{◌≡◌, ◌+◌, ℕ, suc, arith, subst}
 use Rattle.text_faults.specs.Faults.{HasLine}
 use Rattle.text_faults.specs.Faults.HasLine.{First, Later}
-use Rattle.text_faults.proofs.Cuts.{cut_shorter, not_empty}
+use Rattle.text_faults.proofs.Cuts.{cut_shorter, is_nothing, not_empty}
+use Rattle.text_faults.proofs.Passed.{all_left, all_plain, one_more}
 use Rattle.text_faults.proofs.Orders.{order_known}
 use Rattle.text_faults.proofs.finding.fault_in_lines.Goals as goal
 
@@ -37,4 +38,22 @@ loop-rest-preserved c =
           (c.loop-rest.invariant.0 1 c.first_line.result.0.now c.first_line.result.1.now
           (First some c.first_line.ensures)) c.loop-rest.invariant.2 c.order_behind-order.ensures.order,
       c.order_behind-order.ensures.small,
+      one_more c.args.bytes.now c.loop-rest.rest.now c.loop-rest.number c.first_line.result.0.now
+          c.first_line.result.1.now c.loop-rest.invariant.4 c.first_line.ensures c.in_default.ensures,
     )
+
+pub returns : goal.returns
+returns c =
+    all_plain c.args.bytes.now c.loop-rest.rest.now c.loop-rest.number c.loop-rest.invariant.4
+    (is_nothing c.is_empty.result c.loop-rest.rest.now c.loop-rest-test.false c.is_empty.ensures)
+
+pub loop-rest-init : goal.loop-rest-init
+loop-rest-init c = (
+  (λ n line behind h.
+      let same : n ≡ 0 + n = omega arith in
+      subst (λ (k : ℕ). HasLine c.args.bytes.now k line behind) same h),
+  omega arith,
+  tt,
+  tt,
+  all_left c.args.bytes.now,
+)

@@ -1,4 +1,4 @@
-use Rattle.std.proofs.Common.{codes}
+use Rattle.std.proofs.Common.{◌-◌, codes, length, take}
 use Rattle.std.proofs.lemmas.Bool.Decides.{Decides-eqb}
 use Rattle.std.proofs.lemmas.Slice.Eq.{ends_is}
 use Rattle.text_faults.specs.Faults.IsFault.{HasNoByte, HasNoEnd, IsUnfinished, InLine}
@@ -27,3 +27,13 @@ returns-then-not-ends_with-2 c =
     c.ends_with-2.ensures.value).1 x e in
     let not = c.if-not-ends_with-2.true in
     absurd cc)
+
+pub returns : goal.returns
+returns c = record {
+  lines = c.in_default.ensures;
+  end = (
+    take (length c.args.bytes.now - 4) c.args.bytes.now,
+    (ends_is Decides-eqb c.args.bytes.now (codes "end\n") c.ends_with-2.result
+        c.ends_with-2.ensures.value).0 c.if-not-ends_with-2.false,
+  );
+}
