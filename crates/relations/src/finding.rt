@@ -67,6 +67,15 @@ fn formed<A: Allocator + Copy>(
     Ok(kept)
 }
 
+/// How many rules are looked at for more where relations in this form are shown: words are multiplied
+/// by the basis as it is.
+fn most_of(form: Form) -> usize {
+    match form {
+        Form::Basis => 0,
+        Form::Short => MOST,
+    }
+}
+
 /// A presentation of the table with generators out of these elements, where one is found with at most
 /// `LETTERS` of them and no exponent above `LARGEST_EXPONENT`, and shown within the bounds.
 pub fn described<A: Allocator + Copy>(
@@ -108,7 +117,7 @@ pub fn described<A: Allocator + Copy>(
         found.as_slice(),
         relations.as_slice(),
         words.as_slice(),
-        MOST,
+        most_of(form),
         STEPS,
     )?;
     if !shown || !is_listing(table.order(), listing.as_slice()) {

@@ -25,12 +25,28 @@ fn rewritten(letters: usize, rule: &Relation, word: &Word) -> Option<Word>
     Some(changed)
 }
 
+/// Whether the left word is in the word. The last letters, which are the rarest, are looked at first.
+fn fits(letters: usize, left: &Word, word: &Word) -> bool
+    requires { letters ≤ LETTERS }
+{
+    for k in 0..letters {
+        let i = letters - 1 - k;
+        if left[i] > word[i] {
+            return false;
+        }
+    }
+    true
+}
+
 /// The word rewritten once, by the first rule that can.
 fn step(letters: usize, rules: &[Relation], word: &Word) -> Option<Word>
     requires { letters ≤ LETTERS }
     ensures { IfSome result (AreRelatedWords letters rules.now word.now) }
 {
     for rule in rules {
+        if !fits(letters, &rule.left, word) {
+            continue;
+        }
         if let Some(changed) = rewritten(letters, rule, word) {
             return Some(changed);
         }
@@ -143,7 +159,7 @@ fn overlap(letters: usize, rules: &[Relation], i: usize, j: usize, steps: u32) -
     ensures { IfSome result (λ r. AreRelatedWords letters rules.now r.left r.right) }
 {
     let (one, other) = (&rules[i], &rules[j]);
-    if is_apart(letters, &one.left, &other.left) {
+    if is_apart(letters, &one.left, &other.left) || is_needless(letters, rules, i, j) {
         return None;
     }
     let both = join(letters, &one.left, &other.left);
@@ -155,6 +171,29 @@ fn overlap(letters: usize, rules: &[Relation], i: usize, j: usize, steps: u32) -
         return None;
     }
     Some(oriented(letters, &left, &right))
+}
+
+/// Whether the least word that rules `i` and `j` rewrite is also rewritten by a rule before `j` that
+/// has a smaller such word with `j`, or the same one and a smaller number: then what `i` and `j` give
+/// follows from what the two give with that rule. Gebauer and Möller, On an installation of
+/// Buchberger's algorithm.
+fn is_needless(letters: usize, rules: &[Relation], i: usize, j: usize) -> bool
+    requires letters { letters ≤ LETTERS }
+    requires i_in { i < length rules.now }
+    requires j_in { j < length rules.now }
+{
+    let last = &rules[j].left;
+    let both = join(letters, &rules[i].left, last);
+    for k in 0..j {
+        let left = &rules[k].left;
+        if k == i || !fits(letters, left, &both) {
+            continue;
+        }
+        if k < i || !is_same(letters, &join(letters, left, last), &both) {
+            return true;
+        }
+    }
+    false
 }
 
 /// Adds the rules that rule `j` gives with those before it.
