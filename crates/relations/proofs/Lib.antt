@@ -6,3 +6,4 @@ pub mod Spelling
 pub mod Among
 pub mod Each
 pub mod Bases
+pub mod Separated

@@ -17,7 +17,7 @@ use Rattle.relations.proofs.Rewritings.{length-vector, following, Follow}
 use Rattle.relations.proofs.Letters.{vector-zeros, vector-same}
 use Rattle.relations.proofs.WordLaws.{words-present}
 
-pairs-hold : (table : Grid) (elements : List ℕ) (relations : List Relation)
+pub pairs-hold : (table : Grid) (elements : List ℕ) (relations : List Relation)
     → All (HoldsIn table elements) relations
     → PairsHold table elements (pairs_of (length elements) relations)
 pairs-hold table elements relations hold =

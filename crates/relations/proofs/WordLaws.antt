@@ -31,7 +31,7 @@ module _ (table : Grid) (elements : List ℕ) (pairs : List (List ℕ × List �
       product-bump table.order (times_in table) m elements v i within e lt
 
   -- related vectors are one element
-  value-alike : PairsHold table elements pairs → (u v : List ℕ) → Related n pairs u v
+  pub value-alike : PairsHold table elements pairs → (u v : List ℕ) → Related n pairs u v
       → Alike n value_of u v
   value-alike hold =
       related-alike n value_of (λ x i. times_in table x (slice_index elements i)) value-bump pairs

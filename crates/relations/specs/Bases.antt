@@ -1,10 +1,11 @@
 -- Reduced Gröbner bases of the relations of a commutative monoid: Cox, Little and O'Shea, Ideals,
 -- Varieties, and Algorithms, chapter 2.
-use Rattle.std.specs.Prelude.{◌≡◌, ◌≢◌, ℕ, zero, suc, ◌+◌, ◌<◌, ◌≤◌, ◌⊎◌, List, length, slice_index, slice_index_or, All}
+use Rattle.std.specs.Prelude.{◌≡◌, ◌≢◌, ℕ, zero, suc, ◌+◌, ◌<◌, ◌≤◌, ◌⊎◌, List, ◌++◌, length, take, drop, slice_index, slice_index_or, All}
 use Rattle.std.specs.List.{Any}
 use Rattle.presentations.specs.declared.read.Relation.{Relation}
 use Rattle.presentations.specs.Vectors.{bump}
-use Rattle.relations.specs.Presented.{vector_of}
+use Rattle.relations.specs.Presented.{AreRelatedWords, vector_of}
+use Rattle.relations.specs.declared.TheConstants.{LARGEST_IRREDUNDANT}
 use Rattle.relations.specs.declared.finding.Form.{Form}
 use Rattle.relations.specs.declared.finding.Form.TheVariants.{Short, Basis}
 
@@ -42,10 +43,22 @@ pub record IsReducedBasis (n : ℕ) (words : List (List ℕ)) (relations : List 
   pub all : (v : List ℕ) → length v ≡ n → (IsReducible n relations v → ⊥)
       → Any (λ word. vector_of n word ≡ v) words
 
--- The relations are those of the form that is asked for. Of a short list nothing more is said.
+-- relation k doesn't follow from the others
+abbrev pub FollowsNot : ℕ → List Relation → ℕ → Type 0
+FollowsNot n relations k = (d : Relation)
+    → AreRelatedWords n (take k relations ++ drop (k + 1) relations)
+    (slice_index_or relations k d).left (slice_index_or relations k d).right
+    → ⊥
+
+-- No relation follows from the others. Such presentations are called irredundant.
+abbrev pub IsIrredundant : ℕ → List Relation → Type 0
+IsIrredundant n relations = (k : ℕ) → k < length relations → FollowsNot n relations k
+
+-- The relations are those of the form that is asked for: the reduced Gröbner basis, or a short list, of
+-- which none follows from the others where there are at most LARGEST_IRREDUNDANT words.
 abbrev pub AreOfForm : Form → ℕ → List (List ℕ) → List Relation → Type 0
 AreOfForm Basis n words relations = IsReducedBasis n words relations
-AreOfForm Short n words relations = Unit {0}
+AreOfForm Short n words relations = length words ≤ LARGEST_IRREDUNDANT → IsIrredundant n relations
 
 -- The word with letter i once more is listed or reducible.
 abbrev pub LeadsOn : ℕ → List (List ℕ) → List Relation → List ℕ → ℕ → Type 0

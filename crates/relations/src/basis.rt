@@ -1,14 +1,19 @@
 //! Whether relations are the reduced Gröbner basis whose irreducible words are listed.
-ghost use Rattle.std.specs.Prelude.{◌≡◌, ◌≢◌, ◌<◌, ◌≤◌, ◌↔◌, ℕ, IsTrue, All, length, slice_index_or};
+ghost use Rattle.std.specs.Prelude.{◌≡◌, ◌≢◌, ◌<◌, ◌≤◌, ◌↔◌, ℕ, IsTrue, IfOk, All, length, slice_index_or};
 ghost use Rattle.presentations.specs.declared.TheConstants.{LETTERS};
 ghost use Rattle.presentations.specs.declared.read.Relation.{Relation as Rule};
+ghost use Rattle.relations.specs.declared.finding.Form.TheVariants.{Short};
 ghost use Rattle.relations.specs.Bases.{AreOfForm, Divides, IsReducedBasis, IsReducible, LeadsOn, Precedes};
 
+use crate::LARGEST_IRREDUNDANT;
 use crate::checking::{is_empty, lengthened};
 use crate::finding::Form;
 use crate::listing::has_word;
 use crate::rewriting::comes_before;
+use crate::separating::are_irredundant;
+use allocation::Memory;
 use presentations::{LETTERS, Relation, Word};
+use std::alloc::Allocator;
 
 /// Whether the first word is in the second one.
 fn divides(letters: usize, v: &Word, w: &Word) -> bool
@@ -157,13 +162,38 @@ fn is_reduced_basis(letters: usize, words: &[Word], relations: &[Relation]) -> b
     are_irreducible(letters, words, relations)
 }
 
-/// Whether the relations are of the form that is asked for, if that form says more than a short list.
-pub fn are_of_form(letters: usize, words: &[Word], relations: &[Relation], form: Form) -> bool
+/// Whether it is shown that no relation follows from the others, or there are too many words for that.
+fn is_short<A: Allocator + Copy>(
+    alloc: A,
+    letters: usize,
+    words: &[Word],
+    relations: &[Relation],
+) -> Result<bool, Memory>
     requires { letters ≤ LETTERS }
-    ensures { IsTrue result → AreOfForm form letters words.now relations.now }
+    ensures { IfOk result
+        (λ are. IsTrue are → AreOfForm Short letters words.now relations.now) }
+{
+    if words.len() > LARGEST_IRREDUNDANT {
+        return Ok(true);
+    }
+    let free = are_irredundant(alloc, letters, relations)?;
+    Ok(free)
+}
+
+/// Whether it is shown that the relations are of the form that is asked for.
+pub fn are_of_form<A: Allocator + Copy>(
+    alloc: A,
+    letters: usize,
+    words: &[Word],
+    relations: &[Relation],
+    form: Form,
+) -> Result<bool, Memory>
+    requires { letters ≤ LETTERS }
+    ensures { IfOk result
+        (λ are. IsTrue are → AreOfForm form letters words.now relations.now) }
 {
     match form {
-        Form::Basis => is_reduced_basis(letters, words, relations),
-        Form::Short => true,
+        Form::Basis => Ok(is_reduced_basis(letters, words, relations)),
+        Form::Short => is_short(alloc, letters, words, relations),
     }
 }

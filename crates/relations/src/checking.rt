@@ -59,7 +59,7 @@ pub fn value<A: Allocator>(table: &Table<A>, elements: &[u16], word: &Word) -> u
 }
 
 /// Whether both words of each relation are one element.
-fn hold<A: Allocator>(table: &Table<A>, elements: &[u16], relations: &[Relation]) -> bool
+pub fn hold<A: Allocator>(table: &Table<A>, elements: &[u16], relations: &[Relation]) -> bool
     requires elements { All (λ e. e < table.now.order) elements.now }
     requires letters { length elements.now ≤ LETTERS }
     ensures { IsTrue result → All (HoldsIn table.now elements.now) relations.now }

@@ -31,7 +31,7 @@ pub const FEW: usize = 64;
 /// Which relations are given.
 #[derive(Clone, Copy, Debug, PartialEq, Eq)]
 pub enum Form {
-    /// A short list, of which none is known to follow from the others.
+    /// A short list: of at most `LARGEST_IRREDUNDANT` elements, none follows from the others.
     Short,
     /// The reduced Gröbner basis, by which words are multiplied by hand.
     Basis,
@@ -126,7 +126,7 @@ pub fn described<A: Allocator + Copy>(
     if !lead_to(words.as_slice(), relations.as_slice()) {
         return Err(Undescribed::Unshown);
     }
-    if !are_of_form(letters, words.as_slice(), relations.as_slice(), form) {
+    if !are_of_form(alloc, letters, words.as_slice(), relations.as_slice(), form)? {
         return Err(Undescribed::Unshown);
     }
     Ok(Description {

@@ -1,6 +1,9 @@
 //! Relations that present the monoid of a table: rewriting by them, and a check that they do.
 #![tactic(auto)]
 
+/// The most elements of a table of which no relation of a short list follows from the others.
+pub const LARGEST_IRREDUNDANT: usize = 128;
+
 mod basis;
 mod checking;
 mod fault;
@@ -11,6 +14,7 @@ mod least;
 mod listing;
 mod powers;
 mod rewriting;
+mod separating;
 mod shortening;
 mod text;
 

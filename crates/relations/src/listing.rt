@@ -31,7 +31,7 @@ fn has_all(order: u16, listing: &[u16]) -> bool
 }
 
 /// Whether the list has elements below the order alone.
-fn are_below(order: u16, listing: &[u16]) -> bool
+pub fn are_below(order: u16, listing: &[u16]) -> bool
     ensures { IsTrue result → All (λ e. e < order) listing.now }
 {
     for e in listing {

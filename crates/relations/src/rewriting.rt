@@ -10,7 +10,7 @@ use std::alloc::Allocator;
 
 /// The word with the rule's right word in place of its left one, where the left one is in it and no
 /// exponent gets above `u8::MAX`.
-fn rewritten(letters: usize, rule: &Relation, word: &Word) -> Option<Word>
+pub fn rewritten(letters: usize, rule: &Relation, word: &Word) -> Option<Word>
     requires { letters ≤ LETTERS }
     ensures { IfSome result (IsRewritten letters rule.now word.now) }
 {
@@ -26,7 +26,7 @@ fn rewritten(letters: usize, rule: &Relation, word: &Word) -> Option<Word>
 }
 
 /// Whether the left word is in the word. The last letters, which are the rarest, are looked at first.
-fn fits(letters: usize, left: &Word, word: &Word) -> bool
+pub fn fits(letters: usize, left: &Word, word: &Word) -> bool
     requires { letters ≤ LETTERS }
 {
     for k in 0..letters {

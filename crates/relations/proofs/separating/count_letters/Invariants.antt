@@ -1,0 +1,5 @@
+use Rattle.std.proofs.Common.{◌*◌, ◌≤◌, ℕ}
+use Rattle.relations.proofs.separating.count_letters.Given as goal
+
+abbrev pub invariant-loop-i : goal.invariant-loop-i
+invariant-loop-i l = l.count ≤ 255 * l.i
