@@ -46,9 +46,9 @@ note_line beyond.Box =
     codes "misere: present refuses these relations: a box above 65536, or more than 256 elements\n"
 
 -- the line of relations, and beside it the note of the bound of `present` that they are above
-abbrev pub IsRelationsText : Certificate → List ℕ → Option (List ℕ) → Type 0
-IsRelationsText c text note = (word : List ℕ) × (above : Option PresentBound)
-    × IsRelationsWord c word above × (text ≡ word ++ codes "\n") × (note ≡ option_map note_line above)
+abbrev pub IsRelationsText : Form → Certificate → List ℕ → Option (List ℕ) → Type 0
+IsRelationsText form c text note = (word : List ℕ) × (above : Option PresentBound)
+    × IsRelationsWord form c word above × (text ≡ word ++ codes "\n") × (note ≡ option_map note_line above)
 
 -- the text describes the quotient, plain, for LaTeX or in JSON, or says that it isn't described
 abbrev pub DescribesIn : Notation → Form → Certificate → List ℕ → Bool → Type 0
@@ -74,7 +74,7 @@ DescribesQuotient c form Singular text succeeds note =
 DescribesQuotient c form Gap text succeeds note =
     DescribesFor system.Gap form c text succeeds × (note ≡ None)
 DescribesQuotient c form Relations text succeeds note =
-    (IsRelationsText c text note × (succeeds ≡ true))
+    (IsRelationsText form c text note × (succeeds ≡ true))
     ⊎ (IsBoundLine text × (succeeds ≡ false) × (note ≡ None))
 
 -- the same of the quotient that was found, and the text of a no where none was

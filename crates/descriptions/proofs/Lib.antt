@@ -10,3 +10,4 @@ pub mod RowLaws
 pub mod Assembled
 pub mod Polynomials
 pub mod Trivial
+pub mod Beside

@@ -42,7 +42,7 @@ trivial-presents table (e ∷ elements) r none p =
     let long : 0 ≡ length (first_letters (suc (length elements))) = ap length p.letters in
     absurd (omega (arith, long, length-append (first_letters (length elements)) (length elements ∷ [])))
 
-at-zeros : (n i : ℕ) → slice_index (zeros n) i ≡ 0
+pub at-zeros : (n i : ℕ) → slice_index (zeros n) i ≡ 0
 at-zeros zero i = refl
 at-zeros (suc n) zero = refl
 at-zeros (suc n) (suc i) = at-zeros n i

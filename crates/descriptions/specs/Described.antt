@@ -6,7 +6,7 @@ use Rattle.certificate.specs.Fields.{grid_of}
 use Rattle.presentations.specs.declared.TheConstants.{LETTERS, LARGEST_BOX}
 use Rattle.presentations.specs.declared.read.Relation.{Relation}
 use Rattle.presentations.specs.declared.named.NamedElement.{NamedElement}
-use Rattle.presentations.specs.Powers.{IsAboveLimit}
+use Rattle.presentations.specs.Powers.{IsAboveLimit, IsPowerOf}
 use Rattle.presentations.specs.Tables.{IsTableOf}
 use Rattle.monoid_table.specs.Grids.{Grid}
 use Rattle.presentations.specs.Text.{SpellsPresentation}
@@ -118,10 +118,30 @@ pub record HasTable (relations : List Relation) : Type 0 where
   pub is_table : IsTableOf relations table generators
   pub within : IsAboveLimit relations LARGEST_BOX → ⊥
 
--- The line spells relations that present the certificate's monoid, and `present` makes their table.
-pub record IsPresentable (c : Certificate) (line : List ℕ) : Type 0 where
+-- both words of the relation are powers of one letter
+abbrev pub IsBetweenPowers : Relation → Type 0
+IsBetweenPowers r = (letter : ℕ) × IsPowerOf r.left letter × IsPowerOf r.right letter
+
+-- relations, and behind them others between powers of one letter each
+abbrev pub HasBeside : List Relation → List Relation → Type 0
+HasBeside relations all =
+    (more : List Relation) × (all ≡ relations ++ more) × All IsBetweenPowers more
+
+-- The relations are those of a description of this form, and others between powers of one letter each.
+pub record AreOfDescription (c : Certificate) (form : Form) (elements : List ℕ)
+    (relations : List Relation) : Type 0 where
+  pub first : List Relation
+  pub words : List (List ℕ)
+  pub listing : List ℕ
+  pub describes : Describes c form elements first words listing
+  pub beside : HasBeside first relations
+
+-- The line spells relations that present the certificate's monoid, those of a description of this form
+-- first, and `present` makes their table.
+pub record IsPresentable (form : Form) (c : Certificate) (line : List ℕ) : Type 0 where
   pub elements : List ℕ
   pub relations : List Relation
   pub presentation : ArePresentation (grid_of c) elements relations
+  pub described : AreOfDescription c form elements relations
   pub spelled : SpellsPresentation line relations
   pub has_table : HasTable relations

@@ -11,7 +11,8 @@ use Rattle.presentations.specs.Tables.{HasMoreElements}
 use Rattle.relations.specs.Presented.{ArePresentation}
 use Rattle.relations.specs.Printed.{ArePrintable, relations_text}
 use Rattle.relations.specs.declared.text.Notation.TheVariants.{Plain}
-use Rattle.descriptions.specs.Described.{HasTable, IsPresentable}
+use Rattle.relations.specs.declared.finding.Form.{Form}
+use Rattle.descriptions.specs.Described.{AreOfDescription, HasTable, IsPresentable}
 use Rattle.descriptions.specs.declared.presenting.PresentBound.{PresentBound}
 use Rattle.descriptions.specs.declared.presenting.PresentBound.TheVariants as bound
 
@@ -28,18 +29,20 @@ abbrev pub HaveBound : List Relation → Option PresentBound → Type 0
 HaveBound relations None = (length relations ≤ MOST_RELATIONS) × HasTable relations
 HaveBound relations (Some b) = AreAbove b relations
 
--- The word is the text of relations that present the certificate's monoid, with exponents as `present`
--- reads them, and they are above this bound.
-pub record IsRefusedWord (c : Certificate) (b : PresentBound) (word : List ℕ) : Type 0 where
-  pub elements : List ℕ
-  pub relations : List Relation
-  pub presentation : ArePresentation (grid_of c) elements relations
-  pub printable : ArePrintable (length elements) relations
-  pub text : word ≡ relations_text Plain (length elements) (codes " ") relations
-  pub above : AreAbove b relations
+-- The word is the text of relations that present the certificate's monoid, those of a description of
+-- this form first, with exponents as `present` reads them, and they are above this bound.
+pub record IsRefusedWord (form : Form) (c : Certificate) (b : PresentBound) (word : List ℕ) : Type 0
+  where
+    pub elements : List ℕ
+    pub relations : List Relation
+    pub presentation : ArePresentation (grid_of c) elements relations
+    pub described : AreOfDescription c form elements relations
+    pub printable : ArePrintable (length elements) relations
+    pub text : word ≡ relations_text Plain (length elements) (codes " ") relations
+    pub above : AreAbove b relations
 
--- The word is the relations of the certificate's monoid: `present` takes them, or they are above this
--- bound.
-abbrev pub IsRelationsWord : Certificate → List ℕ → Option PresentBound → Type 0
-IsRelationsWord c word None = IsPresentable c word
-IsRelationsWord c word (Some b) = IsRefusedWord c b word
+-- The word is the relations of the certificate's monoid in this form: `present` takes them, or they are
+-- above this bound.
+abbrev pub IsRelationsWord : Form → Certificate → List ℕ → Option PresentBound → Type 0
+IsRelationsWord form c word None = IsPresentable form c word
+IsRelationsWord form c word (Some b) = IsRefusedWord form c b word

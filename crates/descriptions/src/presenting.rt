@@ -1,9 +1,11 @@
 //! The relations as one word, and the bound of `present` that they are above.
-ghost use Rattle.std.specs.Prelude.{◌≡◌, ◌<◌, ◌≤◌, IfOk, All, length, vec_len};
+ghost use Rattle.std.specs.Prelude.{◌≡◌, ◌<◌, ◌≤◌, IsTrue, IfOk, All, length, take, vec_len};
 ghost use Rattle.std.specs.String.{string_bytes};
 ghost use Rattle.presentations.specs.declared.TheConstants.{LETTERS};
 ghost use Rattle.relations.specs.Presented.{ArePresentation};
 ghost use Rattle.relations.specs.Printed.{ArePrintable};
+ghost use Rattle.presentations.specs.Powers.{IsPowerOf};
+ghost use Rattle.descriptions.specs.Described.{HasBeside, IsBetweenPowers};
 ghost use Rattle.descriptions.specs.Presenting.{HaveBound, IsRelationsWord};
 
 use crate::finding::{describe_table, table_of};
@@ -50,6 +52,69 @@ fn bound_of(alloc: Global, presentation: &Presentation) -> Result<Option<Present
     }
 }
 
+/// Whether both words of the relation are powers of this letter.
+fn is_between_powers_of(relation: &Relation, letter: usize) -> bool
+    ensures { IsTrue result
+        → IsPowerOf relation.now.left letter × IsPowerOf relation.now.right letter }
+{
+    for i in 0..LETTERS {
+        if i != letter && (relation.left[i] > 0 || relation.right[i] > 0) {
+            return false;
+        }
+    }
+    true
+}
+
+/// Whether both words of the relation are powers of one letter.
+fn is_between_powers(relation: &Relation) -> bool
+    ensures { IsTrue result → IsBetweenPowers relation.now }
+{
+    for letter in 0..LETTERS {
+        if is_between_powers_of(relation, letter) {
+            return true;
+        }
+    }
+    false
+}
+
+/// Whether each relation is between powers of one letter.
+fn are_between_powers(relations: &[Relation]) -> bool
+    ensures { IsTrue result → All IsBetweenPowers relations.now }
+{
+    for relation in relations {
+        if !is_between_powers(relation) {
+            return false;
+        }
+    }
+    true
+}
+
+/// Whether the first ones of these relations are all of those.
+fn begins(relations: &[Relation], all: &[Relation]) -> bool
+    ensures begins { IsTrue result → take (length relations.now) all.now ≡ relations.now }
+    ensures long { IsTrue result → length relations.now ≤ length all.now }
+{
+    if relations.len() > all.len() {
+        return false;
+    }
+    for i in 0..relations.len() {
+        if relations[i].left != all[i].left || relations[i].right != all[i].right {
+            return false;
+        }
+    }
+    true
+}
+
+/// Whether these relations are all of those, and behind them others between powers of one letter each.
+fn has_beside(relations: &[Relation], all: &[Relation]) -> bool
+    ensures { IsTrue result → HasBeside relations.now all.now }
+{
+    if !begins(relations, all) {
+        return false;
+    }
+    are_between_powers(&all[relations.len()..])
+}
+
 /// The relations of the description, and 1 = 1 where there are none.
 fn own(alloc: Global, table: &Table, description: &Description) -> Result<Vec<Relation>, Memory>
     requires presentation { ArePresentation table.now description.now.elements.items
@@ -60,6 +125,7 @@ fn own(alloc: Global, table: &Table, description: &Description) -> Result<Vec<Re
         (λ r. ArePresentation table.now description.now.elements.items r.items) }
     ensures printable { IfOk result
         (λ r. ArePrintable (vec_len description.now.elements) r.items) }
+    ensures beside { IfOk result (λ r. HasBeside description.now.relations.items r.items) }
     ensures some { IfOk result (λ r. 0 < vec_len r) }
 {
     let _ = table;
@@ -87,12 +153,16 @@ fn chosen(alloc: Global, table: &Table, description: &Description) -> Result<Vec
         (λ r. ArePresentation table.now description.now.elements.items r.items) }
     ensures printable { IfOk result
         (λ r. ArePrintable (vec_len description.now.elements) r.items) }
+    ensures beside { IfOk result (λ r. HasBeside description.now.relations.items r.items) }
     ensures some { IfOk result (λ r. 0 < vec_len r) }
 {
-    match presentable(alloc, table, description)? {
-        Some(relations) => Ok(relations),
-        None => own(alloc, table, description),
+    let Some(relations) = presentable(alloc, table, description)? else {
+        return own(alloc, table, description);
+    };
+    if !has_beside(description.relations.as_slice(), relations.as_slice()) {
+        return own(alloc, table, description);
     }
+    Ok(relations)
 }
 
 /// The relations of the certified quotient's monoid as one word for `present`, and the bound of
@@ -106,7 +176,7 @@ pub fn relations_word(
     form: Form,
 ) -> Result<RelationsWord, Undescribed>
     ensures { IfOk result
-        (λ w. IsRelationsWord certified.now (string_bytes w.word) w.beyond) }
+        (λ w. IsRelationsWord form certified.now (string_bytes w.word) w.beyond) }
 {
     let table = table_of(alloc, certified)?;
     let description = describe_table(alloc, certified, &table, form)?;

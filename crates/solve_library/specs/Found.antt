@@ -107,7 +107,7 @@ form_at form = if form == 0 then Short else Basis
 pub data IsTextFor (output : ℕ) (form : Form) (c : Certificate) (text : List ℕ) : Type 0 where
   Description : output ≡ 0 → IsDescription Plain form c text → IsTextFor output form c text
   ForLatex : output ≡ 1 → IsDescription Latex form c text → IsTextFor output form c text
-  Relations : output ≡ 2 → IsPresentable c text → IsTextFor output form c text
+  Relations : output ≡ 2 → IsPresentable form c text → IsTextFor output form c text
   InJson : output ≡ 3 → IsDescription Json form c text → IsTextFor output form c text
   ForSingular : output ≡ 4 → IsIdealText Singular form c text → IsTextFor output form c text
   ForGap : output ≡ 5 → IsIdealText Gap form c text → IsTextFor output form c text

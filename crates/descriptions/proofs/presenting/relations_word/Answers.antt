@@ -10,31 +10,36 @@ use Rattle.presentations.specs.Text.{SpellsPresentation}
 use Rattle.relations.specs.Presented.{ArePresentation}
 use Rattle.relations.specs.Printed.{ArePrintable, relations_text}
 use Rattle.relations.specs.declared.text.Notation.TheVariants.{Plain}
+use Rattle.relations.specs.declared.finding.Form.{Form}
+use Rattle.descriptions.specs.Described.{AreOfDescription}
 use Rattle.descriptions.specs.Presenting.{HaveBound, IsRelationsWord}
 use Rattle.descriptions.specs.declared.presenting.PresentBound.{PresentBound}
 use Rattle.descriptions.proofs.presenting.relations_word.Goals as goal
 
 -- the word of relations, by their bound
-word-of : (c : Certificate) (elements : List ℕ) (rs : List Relation) (beyond : Option PresentBound)
-    (word : List ℕ)
-    → ArePresentation (grid_of c) elements rs → ArePrintable (length elements) rs
+word-of : (form : Form) (c : Certificate) (elements : List ℕ) (rs : List Relation)
+    (beyond : Option PresentBound) (word : List ℕ)
+    → ArePresentation (grid_of c) elements rs → AreOfDescription c form elements rs
+    → ArePrintable (length elements) rs
     → (length rs ≤ MOST_RELATIONS
     → SpellsPresentation (relations_text Plain (length elements) (codes " ") rs) rs)
     → word ≡ relations_text Plain (length elements) (codes " ") rs → HaveBound rs beyond
-    → IsRelationsWord c word beyond
-word-of c elements rs None word present printable spelled text within =
+    → IsRelationsWord form c word beyond
+word-of form c elements rs None word present described printable spelled text within =
     record {
       elements = elements;
       relations = rs;
       presentation = present;
+      described = described;
       spelled = subst (λ (b : List ℕ). SpellsPresentation b rs) (sym text) (spelled within.0);
       has_table = within.1;
     }
-word-of c elements rs (Some b) word present printable spelled text above =
+word-of form c elements rs (Some b) word present described printable spelled text above =
     record {
       elements = elements;
       relations = rs;
       presentation = present;
+      described = described;
       printable = printable;
       text = text;
       above = above;
@@ -56,10 +61,16 @@ returns c =
     ∙ ap₂ (λ (m : ℕ) (rs : List Relation). relations_text Plain m (codes " ") rs) n_is
     (c.relations-relations.ensures ∙ same)
     in
-    word-of c.args.certified.now d.elements.items r.items c.in_ok-beyond.beyond
+    word-of c.args.form c.args.certified.now d.elements.items r.items c.in_ok-beyond.beyond
     (string_bytes c.in_ok-word.word)
     (subst (λ (t : Grid). ArePresentation t d.elements.items r.items) c.in_ok-table.ensures
-    c.in_ok-relations.ensures.presentation) printable
+    c.in_ok-relations.ensures.presentation) record {
+      first = d.relations.items;
+      words = d.words.items;
+      listing = d.listing.items;
+      describes = c.in_ok-description.ensures.describes;
+      beside = c.in_ok-relations.ensures.beside;
+    } printable
     (λ (few : length r.items ≤ MOST_RELATIONS).
     c.texts_spell.ensures n r.items c.in_ok-description.ensures.describes.letters
     (omega (arith, c.in_ok-relations.ensures.some, r.ok.0)) few printable) text_is
