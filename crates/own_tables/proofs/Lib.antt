@@ -1,0 +1,2 @@
+pub mod ReachedLaws
+pub mod TextLaws
