@@ -1,3 +1,4 @@
 mod Building
+mod CodeLemmas
 mod NumberLemmas
 mod Reading

@@ -34,13 +34,20 @@ command name rules = record (new_app name) { top = record (new_app name).top { r
 abbrev pub check : App
 check = command (codes "check") (optional (codes "file") ∷ option (codes "limit") ∷ [])
 
--- solve CODE.. [--limit N] [--rounds R] [--heaps M] [--deep] [--partial M] [--furthest Q] [--order Q]
--- [--why]
+-- solve CODE.. [--limit N] [--rounds R] [--heaps M] [--deep] [--any] [--partial M] [--furthest Q]
+-- [--order Q] [--why]
 abbrev pub solve : App
 solve = command (codes "solve")
     (several (codes "code") ∷ option (codes "limit") ∷ option (codes "rounds")
-    ∷ option (codes "heaps") ∷ flag (codes "deep") ∷ option (codes "partial")
-    ∷ option (codes "furthest") ∷ option (codes "order") ∷ flag (codes "why") ∷ [])
+    ∷ option (codes "heaps") ∷ flag (codes "deep") ∷ flag (codes "any")
+    ∷ option (codes "partial") ∷ option (codes "furthest") ∷ option (codes "order")
+    ∷ flag (codes "why") ∷ [])
+
+-- series CODE [--order Q] [--heaps M] [--limit N]
+abbrev pub series : App
+series = command (codes "series")
+    (needed (codes "code") ∷ option (codes "order") ∷ option (codes "heaps")
+    ∷ option (codes "limit") ∷ [])
 
 -- show FILE [--limit N]
 abbrev pub show : App
@@ -58,17 +65,26 @@ abbrev pub play : App
 play = command (codes "play")
     (needed (codes "file") ∷ needed (codes "position") ∷ option (codes "limit") ∷ [])
 
+-- compare FILE FILE [--limit N]
+abbrev pub compare : App
+compare = command (codes "compare")
+    (needed (codes "first") ∷ needed (codes "second") ∷ option (codes "limit") ∷ [])
+
+-- certify FILE [--limit N]
+abbrev pub certify : App
+certify = command (codes "certify") (needed (codes "file") ∷ option (codes "limit") ∷ [])
+
 -- present TEXT
 abbrev pub present : App
 present = command (codes "present") (needed (codes "text") ∷ [])
 
 -- catalogue FILE [--new] [--add CERTIFICATE] [--get CODE] [--heaps M] [--salvage] [--migrate]
--- [--limit N]
+-- [--table] [--json] [--limit N]
 abbrev pub catalogue : App
 catalogue = command (codes "catalogue")
     (needed (codes "file") ∷ flag (codes "new") ∷ option (codes "add") ∷ option (codes "get")
     ∷ option (codes "heaps") ∷ flag (codes "salvage") ∷ flag (codes "migrate")
-    ∷ option (codes "limit") ∷ [])
+    ∷ flag (codes "table") ∷ flag (codes "json") ∷ option (codes "limit") ∷ [])
 
 -- desk SCRIPT
 abbrev pub desk : App
@@ -88,7 +104,8 @@ misere = record (new_app (codes "misere")) {
 
 abbrev pub commands : List App
 commands =
-    check ∷ solve ∷ show ∷ describe ∷ play ∷ present ∷ catalogue ∷ desk ∷ infinite ∷ []
+    check ∷ solve ∷ series ∷ show ∷ describe ∷ play ∷ compare ∷ certify ∷ present ∷ catalogue
+    ∷ desk ∷ infinite ∷ []
 
 -- the whole command line
 abbrev pub program : App

@@ -13,11 +13,11 @@ use Rattle.command_line.specs.Program.{program}
 use Rattle.command_line.specs.declared.faults.Exclusion.{Exclusion}
 use Rattle.command_line.specs.declared.faults.Exclusion.TheVariants as exclusion
 use Rattle.command_line.specs.declared.numbers.Quantity.{Quantity}
-use Rattle.command_line.specs.declared.numbers.Quantity.TheVariants.{Limit, Rounds, Heaps, Order, Part, DeepOrder, Last, PartOrder, Furthest}
+use Rattle.command_line.specs.declared.numbers.Quantity.TheVariants.{Limit, Rounds, Heaps, Order, Part, DeepOrder, Last, PartOrder, Furthest, SeriesLast}
 use Rattle.requests.specs.Requests.{CatalogueRequest, Request}
-use Rattle.requests.specs.Requests.CatalogueRequest.{Print, New, Add, NewWith, Get, Salvage, Migrate}
+use Rattle.requests.specs.Requests.CatalogueRequest.{Print, Table, New, Add, NewWith, Get, Salvage, Migrate}
 use Rattle.requests.specs.Requests.Request.{Check, Solve, SolveMany, SolveLines, Show, Describe, Play, PlayLines, Present, Catalogue, Desk}
-use Rattle.requests.specs.Requests.Request.{Infinite, ShowInfinite, PlayInfinite, PlayInfiniteLines}
+use Rattle.requests.specs.Requests.Request.{Series, Compare, Certify, Infinite, ShowInfinite, PlayInfinite, PlayInfiniteLines}
 use Rattle.requests.specs.declared.plans.Aim.{Aim}
 use Rattle.requests.specs.declared.plans.Aim.TheVariants as aim
 use Rattle.requests.specs.declared.plans.SolveBounds.{SolveBounds}
@@ -99,22 +99,23 @@ describe_request rows =
     describe_with (first_of (codes "file") rows) (output_in rows) (is_set (codes "basis") rows)
     (number_of Limit rows)
 
--- the heaps that --heaps, --deep, --partial and --furthest aim at together, where a furthest search
--- has no --order
-abbrev pub aim_of : (heaps : Option Text) (deep : Bool) (partial furthest order : Option Text)
+-- the heaps that --heaps, --deep, --any, --partial and --furthest aim at together, where a furthest
+-- search has no --order
+abbrev pub aim_of : (heaps : Option Text) (deep any : Bool) (partial furthest order : Option Text)
     → Option Aim
-aim_of heaps false None None order =
+aim_of heaps false false None None order =
     option_map (λ n. aim.Whole n) (number_in (bounds_of Heaps) heaps)
-aim_of None true None None order = Some aim.Deep
-aim_of None false (Some last) None order =
+aim_of None true false None None order = Some aim.Deep
+aim_of None false true None None order = Some aim.Any
+aim_of None false false (Some last) None order =
     option_map (λ n. aim.Part n) (number_in (bounds_of Last) (Some last))
-aim_of None false None (Some most) None = Some aim.Furthest
-aim_of _ _ _ _ _ = None
+aim_of None false false None (Some most) None = Some aim.Furthest
+aim_of _ _ _ _ _ _ = None
 
 abbrev pub aim_in : List Row → Option Aim
 aim_in rows = aim_of (first_of (codes "heaps") rows) (is_set (codes "deep") rows)
-    (first_of (codes "partial") rows) (first_of (codes "furthest") rows)
-    (first_of (codes "order") rows)
+    (is_set (codes "any") rows) (first_of (codes "partial") rows)
+    (first_of (codes "furthest") rows) (first_of (codes "order") rows)
 
 -- which number says how many elements are allowed
 abbrev pub order_by : (deep : Bool) (partial furthest : Option Text) → Quantity
@@ -123,21 +124,26 @@ order_by deep (Some last) None = PartOrder
 order_by true None None = DeepOrder
 order_by false None None = Order
 
+-- a search looks at so many heaps: --deep or --any was given
+abbrev pub is_deep : List Row → Bool
+is_deep rows = is_set (codes "deep") rows || is_set (codes "any") rows
+
 abbrev pub order_in : List Row → Option ℕ
 order_in rows = number_of
-    (order_by (is_set (codes "deep") rows) (first_of (codes "partial") rows)
-    (first_of (codes "furthest") rows))
+    (order_by (is_deep rows) (first_of (codes "partial") rows) (first_of (codes "furthest") rows))
     rows
 
--- two of --heaps, --deep, --partial and --furthest stand together, or --furthest and --order
+-- two of --heaps, --deep, --any, --partial and --furthest stand together, or --furthest and --order
 abbrev pub solve_conflicts : List Row → Bool
 solve_conflicts rows =
     let heaps = is_given (codes "heaps") rows in
     let deep = is_set (codes "deep") rows in
+    let any = is_set (codes "any") rows in
     let partial = is_given (codes "partial") rows in
     let furthest = is_given (codes "furthest") rows in
-    (heaps && (deep || partial || furthest)) || (deep && (partial || furthest))
-    || (partial && furthest) || (furthest && is_given (codes "order") rows)
+    (heaps && (deep || any || partial || furthest)) || (deep && (any || partial || furthest))
+    || (any && (partial || furthest)) || (partial && furthest)
+    || (furthest && is_given (codes "order") rows)
 
 -- how far the search goes
 abbrev pub bounds_with : Option ℕ → Option ℕ → Option ℕ → Option Aim → Bool → Option SolveBounds
@@ -162,6 +168,16 @@ solve_with _ _ = None
 
 abbrev pub solve_request : List Row → Option Request
 solve_request rows = solve_with (codes_in rows) (bounds_in rows)
+
+-- the series of a code
+abbrev pub series_with : Option Text → Option ℕ → Option ℕ → Option ℕ → Option Request
+series_with (Some code) (Some n) (Some largest) (Some last) =
+    Some (Series code (record { limit = n; order = largest; heaps = last }))
+series_with _ _ _ _ = None
+
+abbrev pub series_request : List Row → Option Request
+series_request rows = series_with (first_of (codes "code") rows) (number_of Limit rows)
+    (number_of DeepOrder rows) (number_of SeriesLast rows)
 
 -- the word stands for standard input
 abbrev pub is_input : Option Text → Bool
@@ -188,6 +204,30 @@ abbrev pub play_conflicts : List Row → Bool
 play_conflicts rows =
     is_input (first_of (codes "file") rows) && is_input (first_of (codes "position") rows)
 
+-- one of two certificates may stand on standard input
+abbrev pub compare_with : Option Text → Option Text → Option ℕ → Option Request
+compare_with (Some first) (Some second) (Some limit) =
+    if bytes_eq first (codes "-") && bytes_eq second (codes "-")
+    then None
+    else Some (Compare (named_by (Some first)) (named_by (Some second)) limit)
+compare_with _ _ _ = None
+
+abbrev pub compare_request : List Row → Option Request
+compare_request rows = compare_with (first_of (codes "first") rows)
+    (first_of (codes "second") rows) (number_of Limit rows)
+
+-- the two certificates both stand on standard input
+abbrev pub compare_conflicts : List Row → Bool
+compare_conflicts rows =
+    is_input (first_of (codes "first") rows) && is_input (first_of (codes "second") rows)
+
+abbrev pub certify_with : Option Text → Option ℕ → Option Request
+certify_with (Some file) (Some limit) = Some (Certify (named_by (Some file)) limit)
+certify_with _ _ = None
+
+abbrev pub certify_request : List Row → Option Request
+certify_request rows = certify_with (first_of (codes "file") rows) (number_of Limit rows)
+
 abbrev pub present_request : List Row → Option Request
 present_request rows = option_map Present (first_of (codes "text") rows)
 
@@ -205,15 +245,28 @@ task_of false true false None None None = Some Salvage
 task_of false false true None None None = Some Migrate
 task_of _ _ _ _ _ _ = None
 
+-- one of these options is given
+abbrev pub asks_for_more : List Row → Bool
+asks_for_more rows =
+    is_set (codes "new") rows || is_set (codes "salvage") rows || is_set (codes "migrate") rows
+    || is_given (codes "add") rows || is_given (codes "get") rows || is_given (codes "heaps") rows
+
+-- what is asked of a catalogue: a table, where no other of these options is given; or what they ask
+-- for, without --json
 abbrev pub task_in : List Row → Option CatalogueRequest
-task_in rows = task_of (is_set (codes "new") rows) (is_set (codes "salvage") rows)
+task_in rows =
+    if is_set (codes "table") rows
+    then (if asks_for_more rows then None else Some (Table (is_set (codes "json") rows)))
+    else (if is_set (codes "json") rows
+    then None
+    else task_of (is_set (codes "new") rows) (is_set (codes "salvage") rows)
     (is_set (codes "migrate") rows) (first_of (codes "add") rows)
-    (first_of (codes "get") rows) (first_of (codes "heaps") rows)
+    (first_of (codes "get") rows) (first_of (codes "heaps") rows))
 
 -- --get stands with --new or --add, --heaps without --get, or --salvage or --migrate with another
 -- option
-abbrev pub catalogue_conflicts : List Row → Bool
-catalogue_conflicts rows =
+abbrev pub task_conflicts : List Row → Bool
+task_conflicts rows =
     let new = is_set (codes "new") rows in
     let add = is_given (codes "add") rows in
     let get = is_given (codes "get") rows in
@@ -222,6 +275,12 @@ catalogue_conflicts rows =
     let migrate = is_set (codes "migrate") rows in
     (get && (new || add)) || (heaps && not get)
     || ((salvage || migrate) && (new || add || get || heaps)) || (salvage && migrate)
+
+-- --table stands with one of the others; or --json without it, or the others as they can't
+abbrev pub catalogue_conflicts : List Row → Bool
+catalogue_conflicts rows =
+    if is_set (codes "table") rows then asks_for_more rows
+    else (is_set (codes "json") rows || task_conflicts rows)
 
 abbrev pub catalogue_with : Option Text → Option CatalogueRequest → Option ℕ → Option Request
 catalogue_with (Some file) (Some task) (Some limit) = Some (Catalogue file task limit)
@@ -320,6 +379,15 @@ solve = record {
   exclusion = λ rows. Some exclusion.Solve;
 }
 
+abbrev pub series : Asking
+series = record {
+  app = Program.series;
+  request = series_request;
+  numbers = Limit ∷ DeepOrder ∷ SeriesLast ∷ [];
+  conflicts = never;
+  exclusion = untold;
+}
+
 abbrev pub show : Asking
 show = record { app = Program.show; request = show_request; numbers = Limit ∷ []; conflicts = never; exclusion = untold }
 
@@ -340,6 +408,18 @@ play = record {
   conflicts = play_conflicts;
   exclusion = λ rows. Some exclusion.Play;
 }
+
+abbrev pub compare : Asking
+compare = record {
+  app = Program.compare;
+  request = compare_request;
+  numbers = Limit ∷ [];
+  conflicts = compare_conflicts;
+  exclusion = λ rows. Some exclusion.Compare;
+}
+
+abbrev pub certify : Asking
+certify = record { app = Program.certify; request = certify_request; numbers = Limit ∷ []; conflicts = never; exclusion = untold }
 
 abbrev pub present : Asking
 present = record { app = Program.present; request = present_request; numbers = []; conflicts = never; exclusion = untold }
@@ -367,7 +447,8 @@ infinite = record {
 
 abbrev pub commands : List Asking
 commands =
-    check ∷ solve ∷ show ∷ describe ∷ play ∷ present ∷ catalogue ∷ desk ∷ infinite ∷ []
+    check ∷ solve ∷ series ∷ show ∷ describe ∷ play ∷ compare ∷ certify ∷ present ∷ catalogue
+    ∷ desk ∷ infinite ∷ []
 
 abbrev pub command_named : Text → Option Asking
 command_named name = find (λ c. bytes_eq c.app.top.name name) commands

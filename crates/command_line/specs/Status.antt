@@ -7,7 +7,7 @@ use Rattle.command_line.specs.declared.faults.UsageFault.{UsageFault}
 use Rattle.command_line.specs.declared.faults.UsageFault.TheVariants.{Memory, Help, Words, Number}
 use Rattle.command_line.specs.declared.faults.UsageFault.TheVariants.{Exclusive, Incomplete}
 use Rattle.command_line.specs.declared.numbers.Quantity.{Quantity}
-use Rattle.command_line.specs.declared.numbers.Quantity.TheVariants.{Limit, Rounds, Heaps, Order, Part, DeepOrder, Last, PartOrder, Furthest}
+use Rattle.command_line.specs.declared.numbers.Quantity.TheVariants.{Limit, Rounds, Heaps, Order, Part, DeepOrder, Last, PartOrder, Furthest, SeriesLast}
 
 -- help ends well, refused words with 2, want of memory with 3
 abbrev pub status_of : UsageFault → ℕ
@@ -28,10 +28,13 @@ range_text DeepOrder = codes "misere: the order is a number from 2 to 4096\n"
 range_text Last = codes "misere: the heaps are a number from 1 to 1024\n"
 range_text PartOrder = codes "misere: the order is a number from 2 to 4096\n"
 range_text Furthest = codes "misere: the order is a number from 2 to 4096\n"
+range_text SeriesLast = codes "misere: the heaps are a number from 1 to 1024\n"
 
 abbrev pub exclusion_text : Exclusion → Text
 exclusion_text exclusion.Catalogue =
-    codes "misere: --heaps goes with --get, --get without --new and --add, --salvage and --migrate alone\n"
+    codes "misere: --heaps goes with --get, --json with --table, --get without --new and --add, --salvage, --migrate and --table alone\n"
+exclusion_text exclusion.Compare =
+    codes "misere: standard input has one of the two certificates\n"
 exclusion_text exclusion.Description = codes "misere: --latex goes without --relations\n"
 exclusion_text exclusion.Outputs =
     codes "misere: one of --latex, --relations, --json, --singular and --gap\n"
@@ -40,7 +43,7 @@ exclusion_text exclusion.Layout = codes "misere: --latex or --json goes with --s
 exclusion_text exclusion.Play =
     codes "misere: standard input has the certificate or the positions\n"
 exclusion_text exclusion.Solve =
-    codes "misere: one of --heaps, --deep, --partial and --furthest, and --furthest without --order\n"
+    codes "misere: one of --heaps, --deep, --any, --partial and --furthest, and --furthest without --order\n"
 
 -- what is told of the fault
 abbrev pub text_of : UsageFault → Text

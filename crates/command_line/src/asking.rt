@@ -4,15 +4,15 @@ ghost use Rattle.clap.specs.Words.{all_of, first_of};
 ghost use Rattle.command_line.specs.Numbers.{IsWithin, number_of};
 ghost use Rattle.command_line.specs.Plans.{AimsWithin, AreWithin, HasNumbersWithin, TaskHasNumbersWithin};
 ghost use Rattle.command_line.specs.Refusals.{Answers, IsMistake, IsMistakeIn, conflicts_in};
-ghost use Rattle.command_line.specs.Requests.{arguments_of, catalogue, catalogue_conflicts, check, describe, describe_conflicts, desk, infinite, is_set, layout_conflicts, layout_in, named_by, output_in, play};
-ghost use Rattle.command_line.specs.Requests.{aim_in, bounds_in, order_by, order_in, present, request_in, show, solve, solve_conflicts, solve_with, task_in};
+ghost use Rattle.command_line.specs.Requests.{arguments_of, asks_for_more, catalogue, catalogue_conflicts, certify, check, compare, describe, describe_conflicts, desk, infinite, is_deep, is_set, layout_conflicts, layout_in, named_by, output_in, play};
+ghost use Rattle.command_line.specs.Requests.{aim_in, bounds_in, order_by, order_in, present, request_in, series, show, solve, solve_conflicts, solve_with, task_in};
 ghost use Rattle.requests.specs.Requests.{catalogue_request_of, request_of};
 ghost use Rattle.requests.specs.Requests.Request.{SolveMany};
 
 use crate::faults::{Exclusion, UsageFault};
 use crate::numbers::{Quantity, number_given};
 use clap::ArgMatches;
-use requests::{Aim, CatalogueTask, Layout, Output, Plan, SolveBounds};
+use requests::{Aim, CatalogueTask, Layout, Output, Plan, SeriesBounds, SolveBounds};
 use std::alloc::Global;
 
 /// The value that was given under this name.
@@ -76,7 +76,7 @@ fn aim(given: &ArgMatches<'_>) -> Result<Aim, UsageFault>
     ensures aim { IfOk result (λ a. aim_in (arguments_of given.now) ≡ Some a) }
     ensures apart { IfOk result (λ _. solve_conflicts (arguments_of given.now) ≡ false) }
     ensures within { (order : ℕ)
-        → IsWithin (order_by (is_set (codes "deep") (arguments_of given.now))
+        → IsWithin (order_by (is_deep (arguments_of given.now))
         (first_of (codes "partial") (arguments_of given.now))
         (first_of (codes "furthest") (arguments_of given.now))) order
         → IfOk result (λ a. AimsWithin a order) }
@@ -86,29 +86,38 @@ fn aim(given: &ArgMatches<'_>) -> Result<Aim, UsageFault>
     match (
         value(given, "heaps"),
         flag(given, "deep"),
+        flag(given, "any"),
         value(given, "partial"),
         value(given, "furthest"),
         value(given, "order"),
     ) {
-        (_, false, None, None, _) => {
+        (_, false, false, None, None, _) => {
             let heaps = number(given, Quantity::Heaps)?;
             Ok(Aim::Whole { heaps })
         }
-        (None, true, None, None, _) => Ok(Aim::Deep),
-        (None, false, Some(_), None, _) => {
+        (None, true, false, None, None, _) => Ok(Aim::Deep),
+        (None, false, true, None, None, _) => Ok(Aim::Any),
+        (None, false, false, Some(_), None, _) => {
             let last = number(given, Quantity::Last)?;
             Ok(Aim::Part { last })
         }
-        (None, false, None, Some(_), None) => Ok(Aim::Furthest),
+        (None, false, false, None, Some(_), None) => Ok(Aim::Furthest),
         _ => Err(UsageFault::Exclusive(Exclusion::Solve)),
     }
+}
+
+/// Whether as many heaps are to be looked at as in a deep search.
+fn is_deep(given: &ArgMatches<'_>) -> bool
+    ensures { result ≡ is_deep (arguments_of given.now) }
+{
+    flag(given, "deep") || flag(given, "any")
 }
 
 /// How many elements are allowed.
 fn order(given: &ArgMatches<'_>) -> Result<u32, UsageFault>
     ensures order { IfOk result (λ n. order_in (arguments_of given.now) ≡ Some n) }
     ensures within { IfOk result
-        (IsWithin (order_by (is_set (codes "deep") (arguments_of given.now))
+        (IsWithin (order_by (is_deep (arguments_of given.now))
         (first_of (codes "partial") (arguments_of given.now))
         (first_of (codes "furthest") (arguments_of given.now)))) }
     ensures none { IfErr result (λ _. order_in (arguments_of given.now) ≡ None) }
@@ -117,7 +126,7 @@ fn order(given: &ArgMatches<'_>) -> Result<u32, UsageFault>
     match (
         value(given, "furthest"),
         value(given, "partial"),
-        flag(given, "deep"),
+        is_deep(given),
     ) {
         (Some(_), _, _) => number(given, Quantity::Furthest),
         (None, Some(_), _) => number(given, Quantity::PartOrder),
@@ -188,10 +197,26 @@ fn solve_plan<'a>(alloc: Global, given: &ArgMatches<'a>) -> Result<Plan<'a>, Usa
 {
     let bounds = bounds(given)?;
     match codes_given(given) {
-        None | Some([]) => Err(UsageFault::Incomplete),
+        None => Err(UsageFault::Incomplete),
+        Some([]) => Err(UsageFault::Incomplete),
         Some([code]) => Ok(code_plan(code, bounds)),
         Some(codes) => codes_plan(alloc, codes, bounds),
     }
+}
+
+fn series_plan<'a>(given: &ArgMatches<'a>) -> Result<Plan<'a>, UsageFault>
+    ensures { Answers series (arguments_of given.now) result }
+{
+    let code = needed(given, "code")?;
+    let limit = number(given, Quantity::Limit)?;
+    let order = number(given, Quantity::DeepOrder)?;
+    let heaps = number(given, Quantity::SeriesLast)?;
+    let bounds = SeriesBounds {
+        limit,
+        order,
+        heaps,
+    };
+    Ok(Plan::Series { code, bounds })
 }
 
 fn show_plan<'a>(given: &ArgMatches<'a>) -> Result<Plan<'a>, UsageFault>
@@ -259,6 +284,30 @@ fn play_plan<'a>(given: &ArgMatches<'a>) -> Result<Plan<'a>, UsageFault>
     }
 }
 
+fn compare_plan<'a>(given: &ArgMatches<'a>) -> Result<Plan<'a>, UsageFault>
+    ensures { Answers compare (arguments_of given.now) result }
+{
+    let first = named_by(Some(needed(given, "first")?));
+    let second = named_by(Some(needed(given, "second")?));
+    let limit = number(given, Quantity::Limit)?;
+    match (first, second) {
+        (None, None) => Err(UsageFault::Exclusive(Exclusion::Compare)),
+        (first, second) => Ok(Plan::Compare {
+            first,
+            second,
+            limit,
+        }),
+    }
+}
+
+fn certify_plan<'a>(given: &ArgMatches<'a>) -> Result<Plan<'a>, UsageFault>
+    ensures { Answers certify (arguments_of given.now) result }
+{
+    let file = named_by(Some(needed(given, "file")?));
+    let limit = number(given, Quantity::Limit)?;
+    Ok(Plan::Certify { file, limit })
+}
+
 fn present_plan<'a>(given: &ArgMatches<'a>) -> Result<Plan<'a>, UsageFault>
     ensures { Answers present (arguments_of given.now) result }
 {
@@ -266,8 +315,10 @@ fn present_plan<'a>(given: &ArgMatches<'a>) -> Result<Plan<'a>, UsageFault>
     Ok(Plan::Present { text })
 }
 
-/// What is asked of a catalogue.
-fn catalogue_task<'a>(given: &ArgMatches<'a>) -> Result<CatalogueTask<'a>, UsageFault>
+/// What is asked of a catalogue where no table is.
+fn entries_task<'a>(given: &ArgMatches<'a>) -> Result<CatalogueTask<'a>, UsageFault>
+    requires table { is_set (codes "table") (arguments_of given.now) ≡ false }
+    requires json { is_set (codes "json") (arguments_of given.now) ≡ false }
     ensures task { IfOk result (λ task. task_in (arguments_of given.now)
         ≡ Some (catalogue_request_of task)) }
     ensures numbers { IfOk result TaskHasNumbersWithin }
@@ -299,6 +350,34 @@ fn catalogue_task<'a>(given: &ArgMatches<'a>) -> Result<CatalogueTask<'a>, Usage
         }
         (false, true, false, None, None, None) => Ok(CatalogueTask::Salvage),
         (false, false, true, None, None, None) => Ok(CatalogueTask::Migrate),
+        _ => Err(UsageFault::Exclusive(Exclusion::Catalogue)),
+    }
+}
+
+/// Whether a task is asked for besides a table.
+fn asks_for_more(given: &ArgMatches<'_>) -> bool
+    ensures { result ≡ asks_for_more (arguments_of given.now) }
+{
+    flag(given, "new")
+        || flag(given, "salvage")
+        || flag(given, "migrate")
+        || value(given, "add").is_some()
+        || value(given, "get").is_some()
+        || value(given, "heaps").is_some()
+}
+
+/// What is asked of a catalogue.
+fn catalogue_task<'a>(given: &ArgMatches<'a>) -> Result<CatalogueTask<'a>, UsageFault>
+    ensures task { IfOk result (λ task. task_in (arguments_of given.now)
+        ≡ Some (catalogue_request_of task)) }
+    ensures numbers { IfOk result TaskHasNumbersWithin }
+    ensures apart { IfOk result (λ _. catalogue_conflicts (arguments_of given.now) ≡ false) }
+    ensures none { IfErr result (λ _. task_in (arguments_of given.now) ≡ None) }
+    ensures mistake { IfErr result (IsMistake catalogue (arguments_of given.now)) }
+{
+    match (flag(given, "table"), flag(given, "json")) {
+        (false, false) => entries_task(given),
+        (true, json) if !asks_for_more(given) => Ok(CatalogueTask::Table { json }),
         _ => Err(UsageFault::Exclusive(Exclusion::Catalogue)),
     }
 }
@@ -382,9 +461,12 @@ pub(crate) fn command_plan<'a>(
     match name {
         "check" => check_plan(given),
         "solve" => solve_plan(alloc, given),
+        "series" => series_plan(given),
         "show" => show_plan(given),
         "describe" => describe_plan(given),
         "play" => play_plan(given),
+        "compare" => compare_plan(given),
+        "certify" => certify_plan(given),
         "present" => present_plan(given),
         "catalogue" => catalogue_plan(given),
         "desk" => desk_plan(given),

@@ -1,8 +1,8 @@
 //! The commands and their arguments, as `clap` reads them.
 ghost use Rattle.std.specs.Prelude.{◌≡◌, ◌++◌, ◌∷◌, [], List, IfOk, codes, false, true};
 ghost use Rattle.clap.specs.Words.{App, Rule, Text, app_of, new_app, rule_of, with_subcommand};
-ghost use Rattle.command_line.specs.Program.{catalogue, check, command, describe, desk, flag, infinite, misere, needed};
-ghost use Rattle.command_line.specs.Program.{option, optional, play, present, program, several, show, solve};
+ghost use Rattle.command_line.specs.Program.{catalogue, certify, check, command, compare, describe, desk, flag, infinite, misere, needed};
+ghost use Rattle.command_line.specs.Program.{option, optional, play, present, program, series, several, show, solve};
 
 use clap::{Arg, ArgAction, Command};
 use std::alloc::{AllocError, Global};
@@ -119,12 +119,15 @@ fn solve_command<'a>(alloc: Global) -> Result<Command<'a>, AllocError>
 standard input";
     let rounds = "Give up after R rounds: 1 to 1000, by default 64";
     let heaps = "Look at the heaps up to M: 2 to 64, by default 24";
-    let deep = "Look at as many heaps as a certificate can need, and orders to 256 by default";
+    let deep =
+        "Look at as many heaps as a certificate of a game in which no move leaves three heaps can \
+need, and orders to 256 by default";
+    let any = "Look as --deep, and if that gives up, for the most heaps 1 to M, as --furthest";
     let part = "Look for the quotient of the heaps 1 to M alone: 1 to 1024";
     let furthest =
         "Look for the most heaps 1 to M whose quotient has at most Q elements: 2 to 4096";
     let order = "Propose no quotient of more than Q elements: 2 to 256, by default 64, with \
---deep and --partial 2 to 4096";
+--deep, --any and --partial 2 to 4096";
     let why = "Tell why the search is given up";
     let made = Ok(command(alloc, "solve", about));
     let made = with_arg(made, several(alloc, "code", "CODE", code));
@@ -132,10 +135,26 @@ standard input";
     let made = with_arg(made, option(alloc, "rounds", "R", rounds));
     let made = with_arg(made, option(alloc, "heaps", "M", heaps));
     let made = with_arg(made, flag(alloc, "deep", deep));
+    let made = with_arg(made, flag(alloc, "any", any));
     let made = with_arg(made, option(alloc, "partial", "M", part));
     let made = with_arg(made, option(alloc, "furthest", "Q", furthest));
     let made = with_arg(made, option(alloc, "order", "Q", order));
     with_arg(made, flag(alloc, "why", why))
+}
+
+fn series_command<'a>(alloc: Global) -> Result<Command<'a>, AllocError>
+    ensures { IfOk result (λ c. app_of c ≡ series) }
+{
+    let about = "Print how many elements the quotient of the heaps 1 to n has, from n = 1 on";
+    let code = "The code of a game, octal or hexadecimal, as 0.77";
+    let order =
+        "End before the first quotient that isn't found with at most Q elements: 2 to 4096, by default 256";
+    let heaps = "End with n = M: 1 to 1024, by default 64";
+    let made = Ok(command(alloc, "series", about));
+    let made = with_arg(made, needed(alloc, "code", "CODE", code));
+    let made = with_arg(made, option(alloc, "order", "Q", order));
+    let made = with_arg(made, option(alloc, "heaps", "M", heaps));
+    with_arg(made, limit(alloc))
 }
 
 fn show_command<'a>(alloc: Global) -> Result<Command<'a>, AllocError>
@@ -181,6 +200,29 @@ standard input";
     with_arg(made, limit(alloc))
 }
 
+fn compare_command<'a>(alloc: Global) -> Result<Command<'a>, AllocError>
+    ensures { IfOk result (λ c. app_of c ≡ compare) }
+{
+    let about = "Check two certificates, and tell whether their quotients are isomorphic";
+    let first = "The file of the first certificate; as - standard input";
+    let second = "The file of the second certificate; as - standard input";
+    let made = Ok(command(alloc, "compare", about));
+    let made = with_arg(made, needed(alloc, "first", "FILE", first));
+    let made = with_arg(made, needed(alloc, "second", "FILE", second));
+    with_arg(made, limit(alloc))
+}
+
+fn certify_command<'a>(alloc: Global) -> Result<Command<'a>, AllocError>
+    ensures { IfOk result (λ c. app_of c ≡ certify) }
+{
+    let about =
+        "Make a certificate of a quotient that is given by its table, and print it once it is checked";
+    let file = "The file of the quotient; as - standard input";
+    let made = Ok(command(alloc, "certify", about));
+    let made = with_arg(made, needed(alloc, "file", "FILE", file));
+    with_arg(made, limit(alloc))
+}
+
 fn present_command<'a>(alloc: Global) -> Result<Command<'a>, AllocError>
     ensures { IfOk result (λ c. app_of c ≡ present) }
 {
@@ -199,6 +241,8 @@ fn catalogue_command<'a>(alloc: Global) -> Result<Command<'a>, AllocError>
     let heaps = "With --get, that of the heaps up to M: 0 to 1024, by default 0, for all heaps";
     let salvage = "Keep the entries without a fault, and write FILE; without another option";
     let migrate = "Write FILE in the newest form, with the same entries; without another option";
+    let table = "Print a table of the entries, with fields that tabs separate";
+    let json = "With --table: print it as an array of JSON";
     let made = Ok(command(alloc, "catalogue", about));
     let made = with_arg(
         made,
@@ -210,6 +254,8 @@ fn catalogue_command<'a>(alloc: Global) -> Result<Command<'a>, AllocError>
     let made = with_arg(made, option(alloc, "heaps", "M", heaps));
     let made = with_arg(made, flag(alloc, "salvage", salvage));
     let made = with_arg(made, flag(alloc, "migrate", migrate));
+    let made = with_arg(made, flag(alloc, "table", table));
+    let made = with_arg(made, flag(alloc, "json", json));
     with_arg(made, limit(alloc))
 }
 
@@ -279,9 +325,12 @@ pub fn program_command<'a>(alloc: Global) -> Result<Command<'a>, AllocError>
     let program = Ok(misere_command(alloc));
     let program = with(program, check_command(alloc));
     let program = with(program, solve_command(alloc));
+    let program = with(program, series_command(alloc));
     let program = with(program, show_command(alloc));
     let program = with(program, describe_command(alloc));
     let program = with(program, play_command(alloc));
+    let program = with(program, compare_command(alloc));
+    let program = with(program, certify_command(alloc));
     let program = with(program, present_command(alloc));
     let program = with(program, catalogue_command(alloc));
     let program = with(program, desk_command(alloc));

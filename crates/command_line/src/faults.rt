@@ -9,6 +9,8 @@ use crate::numbers::Quantity;
 pub enum Exclusion {
     /// Those of `catalogue`, or one without that which it needs.
     Catalogue,
+    /// The two certificates of `compare`, both on standard input.
+    Compare,
     /// `--latex` and `--relations` of `describe`, without those of `Outputs`.
     Description,
     /// The options of `describe` that say what is printed, one of `--json`, `--singular` and `--gap`
@@ -53,7 +55,7 @@ fn range_line(quantity: Quantity) -> &'static str
         Quantity::DeepOrder | Quantity::PartOrder | Quantity::Furthest => {
             "misere: the order is a number from 2 to 4096\n"
         }
-        Quantity::Last => "misere: the heaps are a number from 1 to 1024\n",
+        Quantity::Last | Quantity::SeriesLast => "misere: the heaps are a number from 1 to 1024\n",
         Quantity::Part => "misere: the heaps are a number from 0 to 1024\n",
     }
 }
@@ -64,8 +66,9 @@ fn exclusion_line(exclusion: Exclusion) -> &'static str
 {
     match exclusion {
         Exclusion::Catalogue => {
-            "misere: --heaps goes with --get, --get without --new and --add, --salvage and --migrate alone\n"
+            "misere: --heaps goes with --get, --json with --table, --get without --new and --add, --salvage, --migrate and --table alone\n"
         }
+        Exclusion::Compare => "misere: standard input has one of the two certificates\n",
         Exclusion::Description => "misere: --latex goes without --relations\n",
         Exclusion::Outputs => {
             "misere: one of --latex, --relations, --json, --singular and --gap\n"
@@ -74,7 +77,7 @@ fn exclusion_line(exclusion: Exclusion) -> &'static str
         Exclusion::Layout => "misere: --latex or --json goes with --show, one of them\n",
         Exclusion::Play => "misere: standard input has the certificate or the positions\n",
         Exclusion::Solve => {
-            "misere: one of --heaps, --deep, --partial and --furthest, and --furthest without --order\n"
+            "misere: one of --heaps, --deep, --any, --partial and --furthest, and --furthest without --order\n"
         }
     }
 }

@@ -7,8 +7,8 @@ ghost use Rattle.command_line.specs.Numbers.{number_within};
 use decimals::number_between;
 use misere_theory::{LARGEST_FIRST_ORDER, LARGEST_ORDER, LARGEST_PART, LARGEST_SECOND_ORDER};
 use requests::{
-    DEFAULT_HEAPS, DEFAULT_LIMIT, DEFAULT_ORDER, DEFAULT_ROUNDS, FEWEST_HEAPS, LARGEST_LIMIT,
-    LEAST_ORDER, MOST_HEAPS, MOST_ROUNDS,
+    DEFAULT_HEAPS, DEFAULT_LIMIT, DEFAULT_ORDER, DEFAULT_ROUNDS, DEFAULT_SERIES, FEWEST_HEAPS,
+    LARGEST_LIMIT, LEAST_ORDER, MOST_HEAPS, MOST_ROUNDS,
 };
 
 /// A number that an option takes.
@@ -24,8 +24,7 @@ pub enum Quantity {
     Order,
     /// The last heap of the part of a game of which a certificate speaks, and 0 for the whole game.
     Part,
-    /// The most elements of a quotient that a search which goes as far as a certificate can
-    /// proposes.
+    /// The most elements of a quotient of a deep search, or of one of a series.
     DeepOrder,
     /// The last heap of the part of a game that is searched for.
     Last,
@@ -33,6 +32,8 @@ pub enum Quantity {
     PartOrder,
     /// The most elements of the quotient of as many heaps as have so few.
     Furthest,
+    /// The last heap of a series.
+    SeriesLast,
 }
 
 /// The range of a number, its ends included, and what the number is where none is given.
@@ -59,6 +60,7 @@ impl Quantity {
             Quantity::DeepOrder => (LEAST_ORDER, order, first_order),
             Quantity::Last => (1, heaps, heaps),
             Quantity::PartOrder | Quantity::Furthest => (LEAST_ORDER, order, second_order),
+            Quantity::SeriesLast => (1, heaps, DEFAULT_SERIES),
         };
         Bounds {
             least,
@@ -67,15 +69,16 @@ impl Quantity {
         }
     }
 
-    /// The name of the option. The heaps of a search and those of a part have one name, and no
-    /// command takes both; the orders have one name, and what else is given says which one is meant.
+    /// The name of the option. The heaps of a search, of a part and of a series have one name, and no
+    /// command takes two of them; the orders have one name, and what else is given says which one is
+    /// meant.
     pub fn name(self) -> &'static str
         ensures { result.now ≡ name_of self }
     {
         match self {
             Quantity::Limit => "limit",
             Quantity::Rounds => "rounds",
-            Quantity::Heaps | Quantity::Part => "heaps",
+            Quantity::Heaps | Quantity::Part | Quantity::SeriesLast => "heaps",
             Quantity::Order | Quantity::DeepOrder | Quantity::PartOrder => "order",
             Quantity::Last => "partial",
             Quantity::Furthest => "furthest",

@@ -6,11 +6,13 @@ use Rattle.requests.specs.declared.plans.Layout.{Layout}
 use Rattle.requests.specs.declared.plans.Output.{Output}
 use Rattle.requests.specs.declared.plans.Plan.{Plan}
 use Rattle.requests.specs.declared.plans.Plan.TheVariants as plan
+use Rattle.requests.specs.declared.plans.SeriesBounds.{SeriesBounds}
 use Rattle.requests.specs.declared.plans.SolveBounds.{SolveBounds}
 
 -- what is asked of a catalogue
 pub data CatalogueRequest : Type 0 where
   Print : CatalogueRequest
+  Table : Bool → CatalogueRequest
   New : CatalogueRequest
   Add : List ℕ → CatalogueRequest
   NewWith : List ℕ → CatalogueRequest
@@ -24,10 +26,13 @@ pub data Request : Type 0 where
   Solve : List ℕ → SolveBounds → Request
   SolveMany : List (List ℕ) → SolveBounds → Request
   SolveLines : SolveBounds → Request
+  Series : List ℕ → SeriesBounds → Request
   Show : Option (List ℕ) → ℕ → Request
   Describe : Option (List ℕ) → Output → Bool → ℕ → Request
   Play : Option (List ℕ) → List ℕ → ℕ → Request
   PlayLines : List ℕ → ℕ → Request
+  Compare : Option (List ℕ) → Option (List ℕ) → ℕ → Request
+  Certify : Option (List ℕ) → ℕ → Request
   Present : List ℕ → Request
   Catalogue : List ℕ → CatalogueRequest → ℕ → Request
   Desk : List ℕ → Request
@@ -39,6 +44,7 @@ pub data Request : Type 0 where
 -- what a task asks for
 abbrev pub catalogue_request_of : CatalogueTask → CatalogueRequest
 catalogue_request_of task.Print = Print
+catalogue_request_of (task.Table json) = Table json
 catalogue_request_of task.New = New
 catalogue_request_of (task.Add certificate) = Add certificate.now
 catalogue_request_of (task.NewWith certificate) = NewWith certificate.now
@@ -52,12 +58,16 @@ request_of (plan.Check file limit) = Check (option_map (λ f. f.now) file) limit
 request_of (plan.Solve code bounds) = Solve code.now bounds
 request_of (plan.SolveMany codes bounds) = SolveMany (map (λ c. c.now) codes.items) bounds
 request_of (plan.SolveLines bounds) = SolveLines bounds
+request_of (plan.Series code bounds) = Series code.now bounds
 request_of (plan.Show file limit) = Show (option_map (λ f. f.now) file) limit
 request_of (plan.Describe file output basis limit) =
     Describe (option_map (λ f. f.now) file) output basis limit
 request_of (plan.Play file position limit) =
     Play (option_map (λ f. f.now) file) position.now limit
 request_of (plan.PlayLines file limit) = PlayLines file.now limit
+request_of (plan.Compare first second limit) =
+    Compare (option_map (λ f. f.now) first) (option_map (λ f. f.now) second) limit
+request_of (plan.Certify file limit) = Certify (option_map (λ f. f.now) file) limit
 request_of (plan.Present text) = Present text.now
 request_of (plan.Catalogue file asked limit) =
     Catalogue file.now (catalogue_request_of asked) limit

@@ -4,8 +4,8 @@
 mod plans;
 mod ranges;
 
-pub use plans::{Aim, CatalogueTask, Layout, Output, Plan, SolveBounds};
+pub use plans::{Aim, CatalogueTask, Layout, Output, Plan, SeriesBounds, SolveBounds};
 pub use ranges::{
-    DEFAULT_HEAPS, DEFAULT_LIMIT, DEFAULT_ORDER, DEFAULT_ROUNDS, FEWEST_HEAPS, LARGEST_LIMIT,
-    LEAST_ORDER, MOST_HEAPS, MOST_ROUNDS,
+    DEFAULT_HEAPS, DEFAULT_LIMIT, DEFAULT_ORDER, DEFAULT_ROUNDS, DEFAULT_SERIES, FEWEST_HEAPS,
+    LARGEST_LIMIT, LEAST_ORDER, MOST_HEAPS, MOST_ROUNDS,
 };

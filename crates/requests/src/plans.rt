@@ -5,8 +5,11 @@
 pub enum Aim {
     /// Of all heaps; those up to `heaps` are looked at.
     Whole { heaps: u32 },
-    /// Of all heaps; as many are looked at as a certificate can need.
+    /// Of all heaps; as many are looked at as show the period of each certificate of a game in which
+    /// no move leaves three heaps.
     Deep,
+    /// Of all heaps as `Deep`; and if that is given up, as `Furthest`.
+    Any,
     /// Of the heaps 1 to `last`.
     Part { last: u32 },
     /// Of the most first heaps that have so few elements as are allowed.
@@ -26,6 +29,17 @@ pub struct SolveBounds {
     pub aim: Aim,
     /// Whether the cause is told where the search is given up.
     pub tells_why: bool,
+}
+
+/// How far a series goes.
+#[derive(Clone, Copy, Debug, PartialEq, Eq)]
+pub struct SeriesBounds {
+    /// How many members the closure of each check may ever keep.
+    pub limit: u32,
+    /// The most elements that a quotient may have.
+    pub order: u32,
+    /// The last heap.
+    pub heaps: u32,
 }
 
 /// What the program is asked to do.
@@ -50,6 +64,11 @@ pub enum Plan<'a> {
     /// Look for a quotient of the code of each line of standard input.
     SolveLines {
         bounds: SolveBounds,
+    },
+    /// Print how many elements the quotients of the first heaps of a code have.
+    Series {
+        code: &'a str,
+        bounds: SeriesBounds,
     },
     /// Print the quotient that the file certifies under the limit, or standard input where no file
     /// is named.
@@ -76,6 +95,19 @@ pub enum Plan<'a> {
     /// under the limit.
     PlayLines {
         file: &'a str,
+        limit: u32,
+    },
+    /// Compare the quotients that the two files certify under the limit, where one that isn't named is
+    /// on standard input.
+    Compare {
+        first: Option<&'a str>,
+        second: Option<&'a str>,
+        limit: u32,
+    },
+    /// Print the certificate of the quotient that the file describes, or standard input where no file is
+    /// named, once it is checked under the limit.
+    Certify {
+        file: Option<&'a str>,
         limit: u32,
     },
     /// Print the monoid that the text presents.
@@ -153,6 +185,8 @@ pub enum Layout {
 pub enum CatalogueTask<'a> {
     /// Print a line for each entry.
     Print,
+    /// Print a table of the entries: a line of fields for each, or as an array of JSON.
+    Table { json: bool },
     /// Write an empty catalogue, without reading the file.
     New,
     /// Add the certificate in this file.

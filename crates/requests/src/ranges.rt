@@ -22,6 +22,9 @@ pub const MOST_HEAPS: u32 = 64;
 /// The heaps that it looks at where none are given.
 pub const DEFAULT_HEAPS: u32 = 24;
 
+/// The last heap of a series, if none is given.
+pub const DEFAULT_SERIES: u32 = 64;
+
 /// The least number of elements that may be allowed to a quotient.
 pub const LEAST_ORDER: u32 = 2;
 

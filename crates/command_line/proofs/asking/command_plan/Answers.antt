@@ -8,7 +8,8 @@ use Rattle.clap.specs.Words.{Row, Text, found_of, rows_of}
 use Rattle.command_line.specs.Plans.{HasNumbersWithin}
 use Rattle.command_line.specs.Refusals.{Answers, IsMistake, IsMistakeIn, IsMistakeOf, conflicts_in}
 use Rattle.command_line.specs.Requests.{Asking, command_named, request_in}
-use Rattle.command_line.specs.Requests.{check, solve, show, describe, play, present, catalogue, desk}
+use Rattle.command_line.specs.Requests.{check, solve, series, show, describe, play, compare, certify}
+use Rattle.command_line.specs.Requests.{present, catalogue, desk}
 use Rattle.requests.specs.Requests.{request_of}
 use Rattle.requests.specs.declared.plans.Plan.{Plan}
 use Rattle.command_line.specs.declared.faults.UsageFault.{UsageFault}
@@ -30,19 +31,23 @@ passed false x rest e r = r
 
 -- a name that is none of the commands' names no command
 unnamed : (name : Text) → (name ≡ codes "check" → ⊥) → (name ≡ codes "solve" → ⊥)
-    → (name ≡ codes "show" → ⊥) → (name ≡ codes "describe" → ⊥) → (name ≡ codes "play" → ⊥)
+    → (name ≡ codes "series" → ⊥) → (name ≡ codes "show" → ⊥) → (name ≡ codes "describe" → ⊥)
+    → (name ≡ codes "play" → ⊥) → (name ≡ codes "compare" → ⊥) → (name ≡ codes "certify" → ⊥)
     → (name ≡ codes "present" → ⊥) → (name ≡ codes "catalogue" → ⊥)
     → (name ≡ codes "desk" → ⊥) → (name ≡ codes "infinite" → ⊥) → command_named name ≡ None
-unnamed name check solve show describe play present catalogue desk infinite =
+unnamed name check solve series show describe play compare certify present catalogue desk infinite =
     passed _ _ _ (other name (codes "check") check)
     (passed _ _ _ (other name (codes "solve") solve)
+    (passed _ _ _ (other name (codes "series") series)
     (passed _ _ _ (other name (codes "show") show)
     (passed _ _ _ (other name (codes "describe") describe)
     (passed _ _ _ (other name (codes "play") play)
+    (passed _ _ _ (other name (codes "compare") compare)
+    (passed _ _ _ (other name (codes "certify") certify)
     (passed _ _ _ (other name (codes "present") present)
     (passed _ _ _ (other name (codes "catalogue") catalogue)
     (passed _ _ _ (other name (codes "desk") desk)
-    (passed _ _ _ (other name (codes "infinite") infinite) refl))))))))
+    (passed _ _ _ (other name (codes "infinite") infinite) refl)))))))))))
 
 -- what the command of the name answers
 module _ (name : Text) (rows : List Row) (command : Asking) (is : command_named name ≡ Some command)
@@ -88,14 +93,17 @@ module _ (name : Text) (rows : List Row) (command : Asking) (is : command_named 
 pub returns-in_default-clause-nothing : goal.returns-in_default-clause-nothing
 returns-in_default-clause-nothing c = λ _.
     ap (option_and_then (λ (a : Asking). a.request (rows_of (found_of c.args.given.now))))
-    (unnamed c.args.name.now c.in_default.not-check c.in_default.not-solve c.in_default.not-show
-    c.in_default.not-describe c.in_default.not-play c.in_default.not-present
-    c.in_default.not-catalogue c.in_default.not-desk c.in_default.not-infinite)
+    (unnamed c.args.name.now c.in_default.not-check c.in_default.not-solve
+    c.in_default.not-series c.in_default.not-show c.in_default.not-describe
+    c.in_default.not-play c.in_default.not-compare c.in_default.not-certify
+    c.in_default.not-present c.in_default.not-catalogue c.in_default.not-desk
+    c.in_default.not-infinite)
 
 pub returns-in_default-clause-fault : goal.returns-in_default-clause-fault
 returns-in_default-clause-fault c = λ _.
     subst (λ (a : Option Asking). IsMistakeOf a (rows_of (found_of c.args.given.now)) Incomplete)
     (sym (unnamed c.args.name.now c.in_default.not-check c.in_default.not-solve
-    c.in_default.not-show c.in_default.not-describe c.in_default.not-play
-    c.in_default.not-present c.in_default.not-catalogue
-    c.in_default.not-desk c.in_default.not-infinite)) refl
+    c.in_default.not-series c.in_default.not-show c.in_default.not-describe
+    c.in_default.not-play c.in_default.not-compare c.in_default.not-certify
+    c.in_default.not-present c.in_default.not-catalogue c.in_default.not-desk
+    c.in_default.not-infinite)) refl

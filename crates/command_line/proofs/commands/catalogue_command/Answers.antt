@@ -13,4 +13,7 @@ returns c =
     c.option-3.ensures.local in
     let six = c.with_arg-made-6.ensures _ _ _ five c.flag-2.ensures.rule c.flag-2.ensures.local in
     let seven = c.with_arg-made-7.ensures _ _ _ six c.flag-3.ensures.rule c.flag-3.ensures.local in
-    c.with_arg.ensures _ _ _ seven c.limit.ensures.rule c.limit.ensures.local
+    let eight = c.with_arg-made-8.ensures _ _ _ seven c.flag-4.ensures.rule
+    c.flag-4.ensures.local in
+    let nine = c.with_arg-made-9.ensures _ _ _ eight c.flag-5.ensures.rule c.flag-5.ensures.local in
+    c.with_arg.ensures _ _ _ nine c.limit.ensures.rule c.limit.ensures.local

@@ -1,5 +1,5 @@
 use Rattle.std.proofs.Common.{refl}
-use Rattle.command_line.specs.Program.{catalogue, check, describe, desk, infinite, misere, play, present, show, solve}
+use Rattle.command_line.specs.Program.{catalogue, certify, check, compare, describe, desk, infinite, misere, play, present, series, show, solve}
 use Rattle.command_line.proofs.commands.program_command.Goals as goal
 
 pub returns : goal.returns
@@ -7,10 +7,13 @@ returns c =
     let one =
     c.with-program.ensures misere check c.misere_command.ensures c.check_command.ensures refl in
     let two = c.with-program-2.ensures _ solve one c.solve_command.ensures refl in
-    let three = c.with-program-3.ensures _ show two c.show_command.ensures refl in
-    let four = c.with-program-4.ensures _ describe three c.describe_command.ensures refl in
-    let five = c.with-program-5.ensures _ play four c.play_command.ensures refl in
-    let six = c.with-program-6.ensures _ present five c.present_command.ensures refl in
-    let seven = c.with-program-7.ensures _ catalogue six c.catalogue_command.ensures refl in
-    let eight = c.with-program-8.ensures _ desk seven c.desk_command.ensures refl in
-    c.with.ensures _ infinite eight c.infinite_command.ensures refl
+    let three = c.with-program-3.ensures _ series two c.series_command.ensures refl in
+    let four = c.with-program-4.ensures _ show three c.show_command.ensures refl in
+    let five = c.with-program-5.ensures _ describe four c.describe_command.ensures refl in
+    let six = c.with-program-6.ensures _ play five c.play_command.ensures refl in
+    let seven = c.with-program-7.ensures _ compare six c.compare_command.ensures refl in
+    let eight = c.with-program-8.ensures _ certify seven c.certify_command.ensures refl in
+    let nine = c.with-program-9.ensures _ present eight c.present_command.ensures refl in
+    let ten = c.with-program-10.ensures _ catalogue nine c.catalogue_command.ensures refl in
+    let eleven = c.with-program-11.ensures _ desk ten c.desk_command.ensures refl in
+    c.with.ensures _ infinite eleven c.infinite_command.ensures refl

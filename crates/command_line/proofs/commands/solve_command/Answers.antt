@@ -10,10 +10,11 @@ returns c =
     let four = c.with_arg-made-4.ensures _ _ _ three c.option-2.ensures.rule
     c.option-2.ensures.local in
     let five = c.with_arg-made-5.ensures _ _ _ four c.flag.ensures.rule c.flag.ensures.local in
-    let six = c.with_arg-made-6.ensures _ _ _ five c.option-3.ensures.rule
+    let six = c.with_arg-made-6.ensures _ _ _ five c.flag-2.ensures.rule c.flag-2.ensures.local in
+    let seven = c.with_arg-made-7.ensures _ _ _ six c.option-3.ensures.rule
     c.option-3.ensures.local in
-    let seven = c.with_arg-made-7.ensures _ _ _ six c.option-4.ensures.rule
+    let eight = c.with_arg-made-8.ensures _ _ _ seven c.option-4.ensures.rule
     c.option-4.ensures.local in
-    let eight = c.with_arg-made-8.ensures _ _ _ seven c.option-5.ensures.rule
+    let nine = c.with_arg-made-9.ensures _ _ _ eight c.option-5.ensures.rule
     c.option-5.ensures.local in
-    c.with_arg.ensures _ _ _ eight c.flag-2.ensures.rule c.flag-2.ensures.local
+    c.with_arg.ensures _ _ _ nine c.flag-3.ensures.rule c.flag-3.ensures.local
