@@ -1,5 +1,5 @@
 -- What a search says. This project's own.
-use Rattle.std.specs.Prelude.{◌≡◌, ◌≢◌, ◌⊎◌, ⊤, ◌≤◌, ◌<◌, ℕ, Bool, true, false, List, ◌++◌, length, Result, Ok, Err, codes, decimal}
+use Rattle.std.specs.Prelude.{◌≡◌, ◌≢◌, ◌⊎◌, ⊤, ◌≤◌, ◌<◌, ℕ, Bool, true, false, List, ◌++◌, length, Option, Some, None, Result, Ok, Err, codes, decimal}
 use Rattle.misere_theory.specs.Certificates.{Certificate, Accepted, kind_of}
 use Rattle.misere_theory.specs.declared.TheConstants.{LARGEST_PART}
 use Rattle.octal_code.specs.Text.{IsCodeText}
@@ -11,9 +11,9 @@ use Rattle.quotient_search.specs.declared.aim.Reason.TheVariants.{TooLarge, Repa
 use Rattle.quotient_finder.specs.Histories.{Events}
 use Rattle.quotient_finder.specs.Rounds.{HasSearched}
 use Rattle.quotient_finder.specs.declared.gave_up.GaveUp.{GaveUp}
-use Rattle.quotient_finder.specs.declared.gave_up.GaveUp.TheVariants.{Rounds, Empty}
+use Rattle.quotient_finder.specs.declared.gave_up.GaveUp.TheVariants.{Rounds, Empty, Memory as NoMemory}
 use Rattle.requests.specs.declared.plans.Aim.{Aim}
-use Rattle.requests.specs.declared.plans.Aim.TheVariants.{Whole, Deep, Part, Furthest}
+use Rattle.requests.specs.declared.plans.Aim.TheVariants.{Whole, Deep, Any, Part, Furthest}
 use Rattle.requests.specs.declared.plans.SolveBounds.{SolveBounds}
 
 -- the text isn't a code's
@@ -26,11 +26,12 @@ IsSolveCause text Memory = ⊤
 IsSolveCause text NotACode = IsNoCode text
 IsSolveCause text _ = ⊥
 
--- a certificate of this kind is aimed at: a full one, that of the heaps 1 to M, or that of some first
--- heaps
+-- a certificate of this kind is aimed at: a full one, that of the heaps 1 to M, that of some first
+-- heaps, or any of these
 abbrev pub IsAimedAt : Aim → ℕ → Type 0
 IsAimedAt (Whole heaps) kind = kind ≡ 0
 IsAimedAt Deep kind = kind ≡ 0
+IsAimedAt Any kind = kind ≤ LARGEST_PART
 IsAimedAt (Part last) kind = kind ≡ last
 IsAimedAt Furthest kind = (1 ≤ kind) × (kind ≤ LARGEST_PART)
 
@@ -39,13 +40,6 @@ pub record IsAskedFor (code : List ℕ) (aim : Aim) (c : Certificate) : Type 0 w
   pub of_code : c.code ≡ code
   pub of_kind : IsAimedAt aim (kind_of c)
   pub accepted : Accepted c
-
--- how many proposers a search asks: two for the whole game, one for a part
-abbrev pub asked_by : Aim → ℕ
-asked_by (Whole heaps) = 2
-asked_by Deep = 2
-asked_by (Part last) = 1
-asked_by Furthest = 1
 
 -- What a search for a certificate of the code and kind came to, over so many proposers, in at most so
 -- many rounds, with this limit of each check.
@@ -56,10 +50,44 @@ pub record HasAsked (code : List ℕ) (kind many limit rounds : ℕ) (came : Res
   pub count : length olds ≡ many
   pub searched : HasSearched code kind limit rounds olds news came
 
--- what a search for a certificate of a kind that is aimed at came to, within these bounds
+-- what a search for the whole game came to, within these bounds, over two proposers
+abbrev pub SearchesWhole : List ℕ → SolveBounds → Result Certificate GaveUp → Type 0
+SearchesWhole code bounds came = HasAsked code 0 2 bounds.limit bounds.rounds came
+
+-- what a search for a part of the game came to, over one
+abbrev pub SearchesPart : List ℕ → SolveBounds → ℕ → Result Certificate GaveUp → Type 0
+SearchesPart code bounds last came = HasAsked code last 1 bounds.limit bounds.rounds came
+
+-- what a search for some first heaps came to
+abbrev pub SearchesFurthest : List ℕ → SolveBounds → Result Certificate GaveUp → Type 0
+SearchesFurthest code bounds came = (last : ℕ) × (1 ≤ last) × (last ≤ LARGEST_PART)
+    × SearchesPart code bounds last came
+
+-- the search was given up, or came to a certificate of more elements than are allowed
+abbrev pub HasMissed : ℕ → Result Certificate GaveUp → Type 0
+HasMissed order (Ok c) = order < c.order
+HasMissed order (Err NoMemory) = ⊥
+HasMissed order (Err why) = ⊤
+
+-- What a search came to for the whole game, and, only if that missed, for some first heaps.
+pub data SearchesAny (code : List ℕ) (bounds : SolveBounds) (came : Result Certificate GaveUp)
+    : Type 0 where
+  OfWhole : SearchesWhole code bounds came → (HasMissed bounds.order came → ⊥)
+      → SearchesAny code bounds came
+  OfPart : (first : Result Certificate GaveUp) → SearchesWhole code bounds first
+      → HasMissed bounds.order first → SearchesFurthest code bounds came
+      → SearchesAny code bounds came
+
+-- what a search for what is aimed at came to, within these bounds
+abbrev pub SearchesFor : Aim → List ℕ → SolveBounds → Result Certificate GaveUp → Type 0
+SearchesFor (Whole heaps) code bounds came = SearchesWhole code bounds came
+SearchesFor Deep code bounds came = SearchesWhole code bounds came
+SearchesFor Any code bounds came = SearchesAny code bounds came
+SearchesFor (Part last) code bounds came = SearchesPart code bounds last came
+SearchesFor Furthest code bounds came = SearchesFurthest code bounds came
+
 abbrev pub IsSearched : List ℕ → SolveBounds → Result Certificate GaveUp → Type 0
-IsSearched code bounds came = (kind : ℕ) × IsAimedAt bounds.aim kind
-    × HasAsked code kind (asked_by bounds.aim) bounds.limit bounds.rounds came
+IsSearched code bounds came = SearchesFor bounds.aim code bounds came
 
 -- The text spells an accepted certificate of the code, of a kind that is aimed at and of at most so
 -- many elements as are allowed, to which the search came.
@@ -74,6 +102,23 @@ pub record SpellsFound (code : List ℕ) (bounds : SolveBounds) (text : List ℕ
 abbrev pub IsSpent : List ℕ → SolveBounds → Type 0
 IsSpent code bounds = IsSearched code bounds (Err Rounds)
     ⊎ ((c : Certificate) × IsSearched code bounds (Ok c) × (bounds.order < c.order))
+
+-- The search was given up, as what is told of it says.
+abbrev pub WasGivenUp : List ℕ → SolveBounds → Type 0
+WasGivenUp code bounds =
+    IsSpent code bounds ⊎ ((bounds.rounds ≢ 0) × IsSearched code bounds (Err Empty))
+
+-- An accepted certificate of the code, of a kind that is aimed at and of at most so many elements as
+-- are allowed, to which the search came.
+pub record IsFoundWithin (code : List ℕ) (bounds : SolveBounds) (c : Certificate) : Type 0 where
+  pub asked_for : IsAskedFor code bounds.aim c
+  pub small : c.order ≤ bounds.order
+  pub searched : IsSearched code bounds (Ok c)
+
+-- what a search comes to: such a certificate, or it was given up
+abbrev pub ComesTo : List ℕ → SolveBounds → Option Certificate → Type 0
+ComesTo code bounds (Some c) = IsFoundWithin code bounds c
+ComesTo code bounds None = WasGivenUp code bounds
 
 -- the line that says why no proposer had a draft that was accepted, with numbers of heaps and of
 -- elements

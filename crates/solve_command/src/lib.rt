@@ -8,4 +8,4 @@ mod told;
 
 pub use many::{solve_lines, solve_many};
 pub use requests::SolveBounds;
-pub use solving::{solve, solve_bytes};
+pub use solving::{certificate_for, solve, solve_bytes};

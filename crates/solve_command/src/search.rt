@@ -1,8 +1,8 @@
 //! The search for a certificate of the kind that is asked.
-ghost use Rattle.std.specs.Prelude.{◌≡◌, ◌≢◌, ◌≤◌, IfOk, IfErr, length};
+ghost use Rattle.std.specs.Prelude.{◌≡◌, ◌≢◌, ◌≤◌, ◌↔◌, IfOk, IfErr, IsTrue, length};
 ghost use Rattle.misere_theory.specs.declared.TheConstants.{LARGEST_PART};
 ghost use Rattle.quotient_finder.specs.Finding.{IsFound};
-ghost use Rattle.solve_command.specs.Solved.{HasAsked, IsAskedFor, IsSearched};
+ghost use Rattle.solve_command.specs.Solved.{HasAsked, HasMissed, IsAskedFor, IsSearched, SearchesAny, SearchesFurthest, SearchesPart, SearchesWhole};
 
 use allocation::Memory;
 use answers::Certified;
@@ -52,7 +52,7 @@ fn ask(
 /// takes longer.
 fn search_whole(alloc: Global, code: &Code, heaps: usize, bounds: SolveBounds) -> Searched
     ensures found { IfOk result.came (IsFound code.now 0) }
-    ensures asked { HasAsked code.now 0 2 bounds.limit bounds.rounds result.came }
+    ensures asked { SearchesWhole code.now bounds result.came }
     ensures no_round { bounds.rounds ≡ 0 → IfErr result.came (λ why. why ≢ GaveUp.Empty) }
 {
     let order = bounds.order as usize;
@@ -65,7 +65,7 @@ fn search_whole(alloc: Global, code: &Code, heaps: usize, bounds: SolveBounds) -
 /// Searches for the certificate of the heaps 1 to `last`.
 fn search_part(alloc: Global, code: &Code, last: u32, bounds: SolveBounds) -> Searched
     ensures found { IfOk result.came (IsFound code.now last) }
-    ensures asked { HasAsked code.now last 1 bounds.limit bounds.rounds result.came }
+    ensures asked { SearchesPart code.now bounds last result.came }
     ensures no_round { bounds.rounds ≡ 0 → IfErr result.came (λ why. why ≢ GaveUp.Empty) }
 {
     let refiner = Refiner::of_part(alloc, last as usize, bounds.order as usize);
@@ -81,6 +81,44 @@ fn last_of_furthest(alloc: Global, code: &Code, order: u32) -> Result<u32, Memor
     Ok(last.max(1) as u32)
 }
 
+/// Searches for a certificate of the most first heaps of which a quotient is found that is small
+/// enough.
+fn search_furthest(alloc: Global, code: &Code, bounds: SolveBounds) -> Result<Searched, Memory>
+    ensures found { IfOk result (λ s. IfOk s.came (IsAskedFor code.now Aim.Furthest)) }
+    ensures searched { IfOk result (λ s. SearchesFurthest code.now bounds s.came) }
+    ensures no_round { bounds.rounds ≡ 0
+        → IfOk result (λ s. IfErr s.came (λ why. why ≢ GaveUp.Empty)) }
+{
+    let last = last_of_furthest(alloc, code, bounds.order)?;
+    Ok(search_part(alloc, code, last, bounds))
+}
+
+/// Whether a search was given up, or came to a certificate of more elements than are allowed.
+fn has_missed(came: &Result<Certified, GaveUp>, order: u32) -> bool
+    ensures { IsTrue result ↔ HasMissed order came.now }
+{
+    match came {
+        Ok(certified) => certified.cert().order() as u32 > order,
+        Err(GaveUp::Memory) => false,
+        Err(_) => true,
+    }
+}
+
+/// Searches for a full certificate of the code, and if that misses, for one of the furthest part.
+fn search_any(alloc: Global, code: &Code, bounds: SolveBounds) -> Result<Searched, Memory>
+    ensures found { IfOk result (λ s. IfOk s.came (IsAskedFor code.now Aim.Any)) }
+    ensures searched { IfOk result (λ s. SearchesAny code.now bounds s.came) }
+    ensures no_round { bounds.rounds ≡ 0
+        → IfOk result (λ s. IfErr s.came (λ why. why ≢ GaveUp.Empty)) }
+{
+    let whole = search_whole(alloc, code, DEEPEST, bounds);
+    if has_missed(&whole.came, bounds.order) {
+        drop(whole);
+        return search_furthest(alloc, code, bounds);
+    }
+    Ok(whole)
+}
+
 /// Searches for a certificate of the code, of the kind that is aimed at.
 pub(crate) fn search(alloc: Global, code: &Code, bounds: SolveBounds) -> Result<Searched, Memory>
     ensures found { IfOk result (λ s. IfOk s.came (IsAskedFor code.now bounds.aim)) }
@@ -92,9 +130,7 @@ pub(crate) fn search(alloc: Global, code: &Code, bounds: SolveBounds) -> Result<
         Aim::Whole { heaps } => Ok(search_whole(alloc, code, heaps as usize, bounds)),
         Aim::Deep => Ok(search_whole(alloc, code, DEEPEST, bounds)),
         Aim::Part { last } => Ok(search_part(alloc, code, last, bounds)),
-        Aim::Furthest => {
-            let last = last_of_furthest(alloc, code, bounds.order)?;
-            Ok(search_part(alloc, code, last, bounds))
-        }
+        Aim::Any => search_any(alloc, code, bounds),
+        Aim::Furthest => search_furthest(alloc, code, bounds),
     }
 }

@@ -2,7 +2,7 @@
 ghost use Rattle.std.specs.Prelude.{◌≡◌, ◌↔◌, IfOk, IfErr, IsErrOf};
 ghost use Rattle.octal_code.specs.Text.{IsCodeText};
 ghost use Rattle.certificate_text.specs.Spelling.{Spells};
-ghost use Rattle.solve_command.specs.Solved.{Finds, IsNoCode, IsSolveCause, Solves, rounds_lines};
+ghost use Rattle.solve_command.specs.Solved.{ComesTo, Finds, IsNoCode, IsSolveCause, Solves, rounds_lines};
 
 use crate::search::{Searched, search};
 use crate::told::empty_text;
@@ -66,6 +66,23 @@ fn answer(alloc: Global, code: &Code, bounds: SolveBounds) -> Result<Said, Memor
         // no proposer drafts a larger order
         Ok(_) => Ok(Said::no(rounds_text(alloc, bounds.tells_why)?)),
         Err(GaveUp::Rounds) => Ok(Said::no(rounds_text(alloc, bounds.tells_why)?)),
+    }
+}
+
+/// The certificate of a kind that is aimed at, of at most as many elements as are allowed, if the
+/// search comes to it.
+pub fn certificate_for(
+    alloc: Global,
+    code: &Code,
+    bounds: SolveBounds,
+) -> Result<Option<Certified>, Memory>
+    ensures { IfOk result (ComesTo code.now bounds) }
+{
+    let Searched { came, reason: _ } = search(alloc, code, bounds)?;
+    match came {
+        Ok(certified) if certified.cert().order() as u32 <= bounds.order => Ok(Some(certified)),
+        Err(GaveUp::Memory) => Err(Memory),
+        Ok(_) | Err(GaveUp::Empty) | Err(GaveUp::Rounds) => Ok(None),
     }
 }
 

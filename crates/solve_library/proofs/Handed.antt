@@ -4,7 +4,7 @@ use Rattle.std.specs.Prelude.{Ok}
 use Rattle.misere_theory.specs.Certificates.{kind_of}
 use Rattle.octal_code.specs.Text.{IsCodeText}
 use Rattle.requests.specs.declared.plans.Aim.{Aim}
-use Rattle.requests.specs.declared.plans.Aim.TheVariants.{Whole, Deep, Part, Furthest}
+use Rattle.requests.specs.declared.plans.Aim.TheVariants.{Whole, Deep, Any, Part, Furthest}
 use Rattle.requests.specs.declared.plans.SolveBounds.{SolveBounds}
 use Rattle.solve_command.specs.Solved.{IsAimedAt, IsSearched, Solves}
 use Rattle.solve_library.specs.Found.{AreBounds, IsAim, IsInRange, IsOfKind, IsUnfound, Tells}
@@ -15,6 +15,7 @@ of_aim : (aim heaps kind : ℕ) (a : Aim) → IsAim aim heaps a → IsAimedAt a 
 of_aim aim heaps kind (Whole most) is at =
     ((λ e. at), (λ e. absurd (let z = is.0 in omega arith)), (λ e. absurd (let z = is.0 in omega arith)))
 of_aim aim heaps kind Deep is at = absurd is
+of_aim aim heaps kind Any is at = absurd is
 of_aim aim heaps kind (Part last) is at =
     ((λ e. absurd (let z = is.0 in omega arith)), (λ e. at ∙ is.1), (λ e. absurd (let z = is.0 in omega arith)))
 of_aim aim heaps kind Furthest is at =

@@ -19,7 +19,7 @@ use Rattle.relations.specs.declared.finding.Form.{Form}
 use Rattle.relations.specs.declared.finding.Form.TheVariants.{Short, Basis}
 use Rattle.relations.specs.declared.text.Notation.TheVariants.{Plain, Latex, Json}
 use Rattle.requests.specs.declared.plans.Aim.{Aim}
-use Rattle.requests.specs.declared.plans.Aim.TheVariants.{Whole, Deep, Part, Furthest}
+use Rattle.requests.specs.declared.plans.Aim.TheVariants.{Whole, Deep, Any, Part, Furthest}
 use Rattle.requests.specs.declared.plans.SolveBounds.{SolveBounds}
 use Rattle.requests.specs.declared.ranges.TheConstants.{FEWEST_HEAPS, LARGEST_LIMIT, LEAST_ORDER, MOST_HEAPS, MOST_ROUNDS}
 use Rattle.solve_command.specs.Solved.{IsNoCode, IsSearched, Solves}
@@ -35,6 +35,7 @@ IsOfKind aim heaps kind = (aim ≡ 0 → kind ≡ 0) × (aim ≡ 1 → kind ≡ 
 abbrev pub IsAim : ℕ → ℕ → Aim → Type 0
 IsAim aim heaps (Whole most) = (aim ≡ 0) × (most ≡ heaps)
 IsAim aim heaps Deep = ⊥
+IsAim aim heaps Any = ⊥
 IsAim aim heaps (Part last) = (aim ≡ 1) × (last ≡ heaps)
 IsAim aim heaps Furthest = aim ≡ 2
 
