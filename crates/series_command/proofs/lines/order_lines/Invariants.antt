@@ -1,0 +1,10 @@
+use Rattle.std.proofs.Common.{◌-◌, ◌≤◌}
+use Rattle.series_command.specs.Series.{AreOrders}
+use Rattle.series_command.proofs.lines.order_lines.Given as goal
+
+abbrev pub invariant-heaps : goal.invariant-heaps
+invariant-heaps l =
+    AreOrders l.code l.bounds.order l.last l.text.items × (l.last ≤ l.bounds.heaps)
+
+abbrev pub decreases-heaps : goal.decreases-heaps
+decreases-heaps l = l.bounds.heaps - l.last
