@@ -8,7 +8,7 @@ use Rattle.describe_command.specs.Described.Describes.{Quotient, NoQuotient}
 use Rattle.requests.specs.declared.plans.Output.{Output}
 use Rattle.requests.specs.declared.plans.Output.TheVariants.{Description, Latex, Json, Relations, Singular, Gap}
 use Rattle.requests.specs.Requests.{Request}
-use Rattle.requests.specs.Requests.Request.{Check, Solve, SolveMany, SolveLines, Show, Describe, Play, PlayLines, Present, Catalogue, Desk}
+use Rattle.requests.specs.Requests.Request.{Check, Solve, SolveMany, SolveLines, Series, Show, Describe, Play, PlayLines, Present, Catalogue, Desk}
 use Rattle.requests.specs.Requests.Request.{Infinite, ShowInfinite, PlayInfinite, PlayInfiniteLines}
 
 -- what has no text is nothing
@@ -38,6 +38,7 @@ module _ (input : Option (List ℕ)) (before after : Option (List ℕ → Option
   plainly (Solve code bounds) text succeeds h = (h, refl)
   plainly (SolveMany codes bounds) text succeeds h = (h, refl)
   plainly (SolveLines bounds) text succeeds h = (h, refl)
+  plainly (Series code bounds) text succeeds h = (h, refl)
   plainly (Show file limit) text succeeds h = (h, refl)
   plainly (Describe file output basis limit) text succeeds h = absurd h
   plainly (Play file position limit) text succeeds h = (h, refl)
@@ -58,6 +59,7 @@ module _ (input : Option (List ℕ)) (before after : Option (List ℕ → Option
   silent (Solve code bounds) text succeeds told e h = h.1
   silent (SolveMany codes bounds) text succeeds told e h = h.1
   silent (SolveLines bounds) text succeeds told e h = h.1
+  silent (Series code bounds) text succeeds told e h = h.1
   silent (Show file limit) text succeeds told e h = h.1
   silent (Describe file output basis limit) text succeeds told e h =
       silent_description _ file output basis limit text succeeds told e h

@@ -11,7 +11,7 @@ use Rattle.play_command.specs.Many.{IsPlayLinesCause}
 use Rattle.play_command.specs.Plays.{IsPlayCause}
 use Rattle.requests.specs.declared.plans.Output.TheVariants.{Relations}
 use Rattle.requests.specs.Requests.{Request}
-use Rattle.requests.specs.Requests.Request.{Check, Solve, SolveMany, SolveLines, Show, Describe, Play, PlayLines, Present, Catalogue, Desk}
+use Rattle.requests.specs.Requests.Request.{Check, Solve, SolveMany, SolveLines, Series, Show, Describe, Play, PlayLines, Present, Catalogue, Desk}
 use Rattle.requests.specs.Requests.Request.{Infinite, ShowInfinite, PlayInfinite, PlayInfiniteLines}
 use Rattle.solve_command.specs.Solved.{IsSolveCause}
 
@@ -37,6 +37,7 @@ IsCause input (Solve code bounds) before after stop = IsSolveCause code stop
 IsCause input (SolveMany codes bounds) before after stop = IsMemory stop
 IsCause input (SolveLines bounds) before after stop =
     IsLinesCause (AreLinesOf input) before.input after.input stop
+IsCause input (Series code bounds) before after stop = IsSolveCause code stop
 IsCause input (Show file limit) before after stop =
     IsGivenCause file (given before) (given after) stop
 IsCause input (Describe file output basis limit) before after stop =

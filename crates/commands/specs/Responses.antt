@@ -13,8 +13,9 @@ use Rattle.play_command.specs.Many.{AreFileOf, PlaysLines}
 use Rattle.play_command.specs.Plays.{Plays}
 use Rattle.present_command.specs.Presented.{Presents}
 use Rattle.requests.specs.Requests.{Request}
-use Rattle.requests.specs.Requests.Request.{Check, Solve, SolveMany, SolveLines, Show, Describe, Play, PlayLines, Present, Catalogue, Desk}
+use Rattle.requests.specs.Requests.Request.{Check, Solve, SolveMany, SolveLines, Series, Show, Describe, Play, PlayLines, Present, Catalogue, Desk}
 use Rattle.requests.specs.Requests.Request.{Infinite, ShowInfinite, PlayInfinite, PlayInfiniteLines}
+use Rattle.series_command.specs.Series.{IsSeries}
 use Rattle.show_command.specs.Shown.{Shows}
 use Rattle.solve_command.specs.Many.{AnswersCodes, SolvesLines}
 use Rattle.solve_command.specs.Solved.{Solves}
@@ -31,6 +32,7 @@ Says input before after (SolveMany codes bounds) text succeeds =
     AnswersCodes bounds codes text succeeds
 Says input before after (SolveLines bounds) text succeeds =
     SolvesLines (AreLinesOf input) bounds text succeeds
+Says input before after (Series code bounds) text succeeds = IsSeries code bounds text succeeds
 Says input before after (Show file limit) text succeeds =
     Shows (AreGiven input before file) limit text succeeds
 Says input before after (Describe file output basis limit) text succeeds = ⊥

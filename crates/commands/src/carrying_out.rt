@@ -17,6 +17,7 @@ use infinite_command::{infinite, play_infinite, play_infinite_lines, show_infini
 use play_command::{play, play_lines};
 use present_command::present;
 use requests::Plan;
+use series_command::series;
 use show_command::show;
 use solve_command::{solve, solve_lines, solve_many};
 use std::alloc::Global;
@@ -119,6 +120,7 @@ fn say<'a, F: Folder, S: Source>(
         Plan::Solve { code, bounds } => solve(alloc, code, bounds),
         Plan::SolveMany { codes, bounds } => solve_many(alloc, &codes, bounds),
         Plan::SolveLines { bounds } => solve_lines(alloc, bounds, input),
+        Plan::Series { code, bounds } => series(alloc, code, bounds),
         Plan::Catalogue { file, task, limit } => act(alloc, folder, file, task, limit),
         Plan::Describe { .. } | Plan::Desk { .. } => unreachable!(),
     }
