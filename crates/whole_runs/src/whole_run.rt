@@ -75,8 +75,8 @@ fn texts_of<'a, T: AsStr>(alloc: Global, words: &'a [T]) -> Result<Vec<&'a str>,
 }
 
 /// Does a whole run by the words, the program's name first, and answers the exit status: 0 for yes,
-/// done or help, 1 for no or a refusal, 2 for words that are no request, a position that can't be
-/// read or a script with a line that isn't a step, 3 where a device failed or memory was wanting.
+/// done or help, 1 for no or a refusal, 2 for words that are no request, a text that is no code or no
+/// position or a script with a line that isn't a step, 3 where a device failed or memory was wanting.
 /// What is asked for is printed whole on standard output, or a beginning of it where that fails or
 /// a script breaks off; why a run ended with 2 or 3 is told on standard error. With 0 and 1 nothing
 /// is told there but beside `describe --relations`: the bound for which `present` would refuse the
