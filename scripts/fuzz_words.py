@@ -100,7 +100,10 @@ def tries(commands: Commands, chance: random.Random, text: bytes) -> Iterator[tu
     yield [b"solve", word(CODES, chance), b"--heaps", b"12", b"--rounds", b"2"], b""
     yield [b"solve", *(word(CODES, chance) for _ in range(3)), b"--heaps", b"12", b"--rounds", b"2"], b""
     yield [b"solve", b"-", b"--heaps", b"12", b"--rounds", b"2"], lines_of(CODES, chance)
+    yield [b"solve", word(CODES, chance), b"--any", b"--order", b"8", b"--rounds", b"2"], b""
+    yield [b"series", word(CODES, chance), b"--order", b"12", b"--heaps", b"6"], b""
     yield [b"catalogue", b"x.json"], b""
+    yield [b"catalogue", b"x.json", b"--table", *chance.sample([b"--json"], chance.randrange(2))], b""
     yield [b"catalogue", b"x.json", b"--get", word(CODES, chance)], b""
     yield [b"catalogue", b"x.json", b"--get", word(CODES, chance), b"--heaps", word(HEAPS, chance)], b""
     yield [b"catalogue", b"x.json", b"--migrate"], b""

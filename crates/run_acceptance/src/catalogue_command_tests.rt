@@ -130,6 +130,65 @@ const HEAPS_0: &str = ",\"heaps\":0";
 
 const HEAPS_2: &str = ",\"heaps\":2";
 
+/// What a file holds, whether its table is printed in JSON, whether it is well, and its table.
+struct Tabled(Held, bool, bool, &'static str);
+
+impl Row for Tabled {
+    fn holds(&self, alloc: Global) -> bool {
+        match text_of(alloc, &self.0) {
+            Ok(text) => is_tabled(alloc, text.as_str(), self.1, self.2, self.3),
+            Err(_) => false,
+        }
+    }
+}
+
+/// Whether the table of this text is this, and the file stays.
+fn is_tabled(alloc: Global, text: &str, json: bool, succeeds: bool, printed: &str) -> bool {
+    let task = CatalogueTask::Table { json };
+    match folder_of_file(alloc, text) {
+        Some(mut folder) => {
+            prints(alloc, &mut folder, "x.json", task, succeeds, printed)
+                && holds(&folder, "x.json", text)
+        }
+        None => false,
+    }
+}
+
+/// No entry; and a whole game, a part of one, and another whole game.
+static TABLES: [Tabled; 5] = [
+    Tabled(
+        Held::Text(SECOND_VERSION),
+        false,
+        true,
+        "code\tkind\theaps\torder\tportion\tstart\tperiod\n",
+    ),
+    Tabled(Held::Text(SECOND_VERSION), true, true, "[]\n"),
+    Tabled(
+        Held::Second(&[
+            (OF_0_3, "0.3", HEAPS_0),
+            (PART_OF_0_3, "0.3", HEAPS_2),
+            (OF_0_33, "0.33", HEAPS_0),
+        ]),
+        false,
+        true,
+        "code\tkind\theaps\torder\tportion\tstart\tperiod\n0.3\tfull\t\t2\t1\t1\t2\n\
+0.3\tpart\t2\t2\t1\t\t\n0.33\tfull\t\t6\t2\t1\t3\n",
+    ),
+    Tabled(
+        Held::Second(&[
+            (OF_0_3, "0.3", HEAPS_0),
+            (PART_OF_0_3, "0.3", HEAPS_2),
+            (OF_0_33, "0.33", HEAPS_0),
+        ]),
+        true,
+        true,
+        "[{\"code\":\"0.3\",\"kind\":\"full\",\"order\":2,\"portion\":1,\"start\":1,\"period\":2},\n\
+{\"code\":\"0.3\",\"kind\":\"part\",\"heaps\":2,\"order\":2,\"portion\":1},\n\
+{\"code\":\"0.33\",\"kind\":\"full\",\"order\":6,\"portion\":2,\"start\":1,\"period\":3}]\n",
+    ),
+    Tabled(Held::Text(TWICE), true, false, "refused 5 Twice 2\n"),
+];
+
 /// Of an entry at fault the first fault is told: the certificate, the code, the heaps, and that an
 /// earlier entry has the code and the kind.
 static LISTS: [Listed; 27] = [
@@ -343,6 +402,7 @@ fn gives_of_many(alloc: Global) -> Result<bool, AllocError> {
 #[test]
 fn lists_or_keeps_what_stands_of_a_file(rt: HostRuntime) {
     compare(&rt, "LISTS", count_held(rt.alloc(), &LISTS), 27);
+    compare(&rt, "TABLES", count_held(rt.alloc(), &TABLES), 5);
     compare(&rt, "DAMAGES", count_held(rt.alloc(), &DAMAGES), 3);
     compare(
         &rt,

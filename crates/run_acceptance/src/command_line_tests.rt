@@ -3,7 +3,7 @@ use crate::comparing::compare;
 use crate::rows::{Row, count_held};
 use crate::words::line_words;
 use command_line::{Exclusion, Quantity, UsageFault, VERSION, plan};
-use requests::{Aim, CatalogueTask, Layout, Output, Plan, SolveBounds};
+use requests::{Aim, CatalogueTask, Layout, Output, Plan, SeriesBounds, SolveBounds};
 use std::alloc::Global;
 
 /// What words ask for.
@@ -17,6 +17,10 @@ enum Asked {
     ShowInfinite(Option<&'static str>, Layout, u32),
     PlayInfinite(Option<&'static str>, &'static str, u32),
     PlayInfiniteLines(&'static str, u32),
+    /// A series of 0.3: the limit, the order and the last heap.
+    Series(u32, u32, u32),
+    Compare(Option<&'static str>, Option<&'static str>, u32),
+    Certify(Option<&'static str>, u32),
     Present(&'static str),
     Catalogue(&'static str, CatalogueTask<'static>, u32),
     Desk(&'static str),
@@ -71,6 +75,18 @@ fn search(bounds: SolveBounds) -> Plan<'static> {
     }
 }
 
+/// A series of 0.3.
+fn series(limit: u32, order: u32, heaps: u32) -> Plan<'static> {
+    Plan::Series {
+        code: "0.3",
+        bounds: SeriesBounds {
+            limit,
+            order,
+            heaps,
+        },
+    }
+}
+
 /// A task on a catalogue.
 fn task_of(file: &'static str, task: CatalogueTask<'static>, limit: u32) -> Plan<'static> {
     Plan::Catalogue { file, task, limit }
@@ -115,6 +131,13 @@ fn plan_of(asked: &Asked) -> Plan<'static> {
             limit,
         },
         Asked::PlayInfiniteLines(file, limit) => Plan::PlayInfiniteLines { file, limit },
+        Asked::Series(limit, order, heaps) => series(limit, order, heaps),
+        Asked::Compare(first, second, limit) => Plan::Compare {
+            first,
+            second,
+            limit,
+        },
+        Asked::Certify(file, limit) => Plan::Certify { file, limit },
         Asked::Present(text) => Plan::Present { text },
         Asked::Catalogue(file, task, limit) => task_of(file, task, limit),
         Asked::Desk(script) => Plan::Desk { script },
@@ -150,7 +173,34 @@ impl Row for Asks {
     }
 }
 
-static ASKED: [Asks; 67] = [
+static ASKED: [Asks; 76] = [
+    Asks("solve|0.3|--any", Asked::Aimed(256, Aim::Any, false)),
+    Asks(
+        "solve|--any|--order|4096|--why|0.3",
+        Asked::Aimed(4096, Aim::Any, true),
+    ),
+    Asks("series|0.3", Asked::Series(100000, 256, 64)),
+    Asks(
+        "series|--order|4096|--heaps=1024|0.3|--limit|7",
+        Asked::Series(7, 4096, 1024),
+    ),
+    Asks(
+        "series|0.3|--order=2|--heaps|1",
+        Asked::Series(100000, 2, 1),
+    ),
+    Asks(
+        "compare|a.mqc|--limit|8|b.mqc",
+        Asked::Compare(Some("a.mqc"), Some("b.mqc"), 8),
+    ),
+    Asks("certify|a.txt|--limit=9", Asked::Certify(Some("a.txt"), 9)),
+    Asks(
+        "catalogue|x.json|--table",
+        Asked::Task(CatalogueTask::Table { json: false }),
+    ),
+    Asks(
+        "catalogue|--json|x.json|--table",
+        Asked::Task(CatalogueTask::Table { json: true }),
+    ),
     Asks("check", Asked::Check(None, 100000)),
     Asks("check|a.mqc", Asked::Check(Some("a.mqc"), 100000)),
     Asks("check|--limit|1", Asked::Check(None, 1)),
@@ -410,7 +460,16 @@ const DEEP: SolveBounds = SolveBounds {
 };
 
 /// `-` is standard input, where a certificate is asked for alone.
-static BY_INPUT: [Asks; 11] = [
+static BY_INPUT: [Asks; 14] = [
+    Asks(
+        "compare|-|b.mqc",
+        Asked::Compare(None, Some("b.mqc"), 100000),
+    ),
+    Asks(
+        "compare|a.mqc|-",
+        Asked::Compare(Some("a.mqc"), None, 100000),
+    ),
+    Asks("certify|-", Asked::Certify(None, 100000)),
     Asks("check|-|--limit|8", Asked::Check(None, 8)),
     Asks("check|./-", Asked::Check(Some("./-"), 100000)),
     Asks("show|-", Asked::Show(None, 100000)),
@@ -438,8 +497,8 @@ static BY_INPUT: [Asks; 11] = [
 
 #[test]
 fn asks_for_plans(rt: HostRuntime) {
-    compare(&rt, "ASKED", count_held(rt.alloc(), &ASKED), 67);
-    compare(&rt, "BY_INPUT", count_held(rt.alloc(), &BY_INPUT), 11);
+    compare(&rt, "ASKED", count_held(rt.alloc(), &ASKED), 76);
+    compare(&rt, "BY_INPUT", count_held(rt.alloc(), &BY_INPUT), 14);
     compare(&rt, "ASKED_MANY", count_held(rt.alloc(), &ASKED_MANY), 5);
 }
 
@@ -480,7 +539,47 @@ impl Row for Refuses {
     }
 }
 
-static REFUSED: [Refuses; 157] = [
+static REFUSED: [Refuses; 176] = [
+    Refuses("compare|-|-", Why::Exclusive(Exclusion::Compare)),
+    Refuses("compare|a.mqc", Why::Words),
+    Refuses("compare|a|b|--limit|0", Why::Number(Quantity::Limit)),
+    Refuses("certify", Why::Words),
+    Refuses("certify|a.txt|--limit|0", Why::Number(Quantity::Limit)),
+    Refuses("series", Why::Words),
+    Refuses("series|0.3|0.33", Why::Words),
+    Refuses("series|0.3|--heaps|0", Why::Number(Quantity::SeriesLast)),
+    Refuses("series|0.3|--heaps|1025", Why::Number(Quantity::SeriesLast)),
+    Refuses("series|0.3|--order|1", Why::Number(Quantity::DeepOrder)),
+    Refuses("series|0.3|--order|4097", Why::Number(Quantity::DeepOrder)),
+    Refuses("solve|0.3|--any|--deep", Why::Exclusive(Exclusion::Solve)),
+    Refuses(
+        "solve|0.3|--any|--heaps|3",
+        Why::Exclusive(Exclusion::Solve),
+    ),
+    Refuses(
+        "solve|0.3|--partial|3|--any",
+        Why::Exclusive(Exclusion::Solve),
+    ),
+    Refuses(
+        "solve|0.3|--any|--furthest|3",
+        Why::Exclusive(Exclusion::Solve),
+    ),
+    Refuses(
+        "solve|0.3|--any|--order|4097",
+        Why::Number(Quantity::DeepOrder),
+    ),
+    Refuses(
+        "catalogue|x.json|--json",
+        Why::Exclusive(Exclusion::Catalogue),
+    ),
+    Refuses(
+        "catalogue|x.json|--table|--get|0.3",
+        Why::Exclusive(Exclusion::Catalogue),
+    ),
+    Refuses(
+        "catalogue|x.json|--table|--salvage",
+        Why::Exclusive(Exclusion::Catalogue),
+    ),
     Refuses("play|-|-", Why::Exclusive(Exclusion::Play)),
     Refuses("infinite|-|-", Why::Exclusive(Exclusion::Play)),
     Refuses(
@@ -791,7 +890,7 @@ fn is_incomplete(alloc: Global) -> bool {
 
 #[test]
 fn tells_why_words_ask_for_nothing(rt: HostRuntime) {
-    compare(&rt, "REFUSED", count_held(rt.alloc(), &REFUSED), 157);
+    compare(&rt, "REFUSED", count_held(rt.alloc(), &REFUSED), 176);
     compare(&rt, "no command", is_incomplete(rt.alloc()), true);
 }
 

@@ -37,6 +37,8 @@ mod rows;
 #[cfg(test)]
 mod said;
 #[cfg(test)]
+mod series_command_tests;
+#[cfg(test)]
 mod show_command_tests;
 #[cfg(test)]
 mod solve_command_tests;

@@ -134,7 +134,15 @@ fn begins(alloc: Global, code: &str, bounds: SolveBounds, is_found: bool, head: 
 }
 
 /// Codes whose certificates need more than 64 heaps, and parts of games.
-static AIMED: [Aimed; 15] = [
+static AIMED: [Aimed; 17] = [
+    Aimed("0.33", Aim::Any, 256, true, OF_0_33),
+    Aimed(
+        "0.07",
+        Aim::Any,
+        64,
+        true,
+        "mqc 2\ncode 0.07\norder 24\nstart 25\nperiod 0\n",
+    ),
     Aimed(
         "0.77",
         Aim::Deep,
@@ -433,7 +441,7 @@ fn prints_the_certificates_of_codes(rt: HostRuntime) {
 
 #[test]
 fn aims_at_whole_games_and_at_parts(rt: HostRuntime) {
-    assert!(rt; count_held(rt.alloc(), &AIMED) == 15);
+    assert!(rt; count_held(rt.alloc(), &AIMED) == 17);
     assert!(rt; tells_members_and_rounds(rt.alloc()));
 }
 

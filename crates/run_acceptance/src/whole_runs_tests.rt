@@ -85,7 +85,24 @@ fn ends_with<S: Source>(alloc: Global, run: &Run, input: &mut S, held: &str) -> 
 const YES: &str = "yes 0.3 order 2 start 1 period 2\n";
 
 /// Of most a second call of the folder would fail.
-static ROWS: [Run; 83] = [
+static ROWS: [Run; 88] = [
+    Run("series|0.33|--heaps|3", 2, 0, "1 2\n2 6\n3 6\n", ""),
+    Run("series|0.30", 2, 2, "", "misere: not a code\n"),
+    Run("solve|0.33|--any", 2, 0, OF_0_33, ""),
+    Run(
+        "catalogue|x.json|--table",
+        2,
+        0,
+        "code\tkind\theaps\torder\tportion\tstart\tperiod\n0.3\tfull\t\t2\t1\t1\t2\n",
+        "",
+    ),
+    Run(
+        "catalogue|x.json|--table|--json",
+        2,
+        0,
+        "[{\"code\":\"0.3\",\"kind\":\"full\",\"order\":2,\"portion\":1,\"start\":1,\"period\":2}]\n",
+        "",
+    ),
     Run(
         "check|0.33.mqc",
         2,
@@ -292,7 +309,7 @@ ideal I =\n  a^2-1,\n  b^3-b,\n  b*c-a*b,\n  c^2-b^2;\n",
         2,
         2,
         "",
-        "misere: --heaps goes with --get, --get without --new and --add, --salvage and --migrate alone\n",
+        "misere: --heaps goes with --get, --json with --table, --get without --new and --add, --salvage, --migrate and --table alone\n",
     ),
     Run(
         "desk|steps",
@@ -367,7 +384,7 @@ ideal I =\n  a^2-1,\n  b^3-b,\n  b*c-a*b,\n  c^2-b^2;\n",
         2,
         2,
         "",
-        "misere: --heaps goes with --get, --get without --new and --add, --salvage and --migrate alone\n",
+        "misere: --heaps goes with --get, --json with --table, --get without --new and --add, --salvage, --migrate and --table alone\n",
     ),
     Run("check|0.3.mqc", 1, 3, "", "misere: cannot read 0.3.mqc\n"),
     Run("show|0.3.mqc", 1, 3, "", "misere: cannot read 0.3.mqc\n"),
@@ -469,7 +486,7 @@ fn makes_anew(alloc: Global) -> bool {
 
 #[test]
 fn does_what_is_asked(rt: HostRuntime) {
-    compare(&rt, "ROWS", count_held(rt.alloc(), &ROWS), 83);
+    compare(&rt, "ROWS", count_held(rt.alloc(), &ROWS), 88);
     compare(&rt, "MADE", makes_anew(rt.alloc()), true);
     compare(&rt, "READ", count_held(rt.alloc(), &READ), 6);
     compare(&rt, "UNREAD", count_held(rt.alloc(), &UNREAD), 8);
