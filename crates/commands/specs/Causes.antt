@@ -1,9 +1,10 @@
 -- Why each request may stop, and which devices it uses. This project's own.
-use Rattle.std.specs.Prelude.{ℕ, Bool, true, false, List, Option, Some, None, is_none, is_some}
+use Rattle.std.specs.Prelude.{ℕ, ◌||◌, Bool, true, false, List, Option, Some, None, is_none, is_some}
 use Rattle.catalogue_command.specs.Stops as catalogue
 use Rattle.catalogue_command.specs.Tasks.{StopsTask}
 use Rattle.check_command.specs.Checks as check
 use Rattle.check_command.specs.Checks.{IsGivenCause}
+use Rattle.compare_command.specs.Compared.{IsCompareCause}
 use Rattle.command_results.specs.Lines.{AreLinesOf, IsLinesCause}
 use Rattle.command_results.specs.Stops.{IsMemory}
 use Rattle.command_results.specs.declared.stop.Stop.{Stop}
@@ -12,7 +13,7 @@ use Rattle.play_command.specs.Plays.{IsPlayCause}
 use Rattle.requests.specs.declared.plans.Output.TheVariants.{Relations}
 use Rattle.requests.specs.Requests.{Request}
 use Rattle.requests.specs.Requests.Request.{Check, Solve, SolveMany, SolveLines, Series, Show, Describe, Play, PlayLines, Present, Catalogue, Desk}
-use Rattle.requests.specs.Requests.Request.{Infinite, ShowInfinite, PlayInfinite, PlayInfiniteLines}
+use Rattle.requests.specs.Requests.Request.{Compare, Infinite, ShowInfinite, PlayInfinite, PlayInfiniteLines}
 use Rattle.solve_command.specs.Solved.{IsSolveCause}
 
 -- How often each device has failed that a command reads or changes.
@@ -46,6 +47,8 @@ IsCause input (Play file position limit) before after stop =
     IsPlayCause file position (given before) (given after) stop
 IsCause input (PlayLines file limit) before after stop =
     IsPlayLinesCause file (AreLinesOf input) (given before) (given after) stop
+IsCause input (Compare first second limit) before after stop =
+    IsCompareCause first second (given before) (given after) stop
 IsCause input (Present text) before after stop = IsMemory stop
 IsCause input (Catalogue file task limit) before after stop =
     StopsTask file task (catalogue.failed before.reads before.writes)
@@ -67,6 +70,7 @@ reads_input (Some (Show file limit)) = is_none file
 reads_input (Some (Describe file output basis limit)) = is_none file
 reads_input (Some (Play file position limit)) = is_none file
 reads_input (Some (PlayLines file limit)) = true
+reads_input (Some (Compare first second limit)) = is_none first || is_none second
 reads_input (Some (SolveLines bounds)) = true
 reads_input (Some (Infinite file limit)) = is_none file
 reads_input (Some (ShowInfinite file layout limit)) = is_none file
@@ -81,6 +85,7 @@ takes_files (Some (Show file limit)) = is_some file
 takes_files (Some (Describe file output basis limit)) = is_some file
 takes_files (Some (Play file position limit)) = is_some file
 takes_files (Some (PlayLines file limit)) = true
+takes_files (Some (Compare first second limit)) = is_some first || is_some second
 takes_files (Some (Catalogue file task limit)) = true
 takes_files (Some (Desk script)) = true
 takes_files (Some (Infinite file limit)) = is_some file

@@ -4,6 +4,7 @@ use Rattle.std.specs.Prelude.{◌≡◌, ℕ, Bool, List, Option, None}
 use Rattle.catalogue_command.specs.Tasks.{KeepsCatalogue, catalogue_written}
 use Rattle.check_command.specs.Checks.{AreGiven, Checks}
 use Rattle.command_results.specs.Lines.{AreLinesOf}
+use Rattle.compare_command.specs.Compared.{Compares, left_behind}
 use Rattle.describe_command.specs.Described.{Describes, form_of}
 use Rattle.infinite_command.specs.Checks.{ChecksInfinite}
 use Rattle.infinite_command.specs.Many.{PlaysInfiniteLines}
@@ -14,7 +15,7 @@ use Rattle.play_command.specs.Plays.{Plays}
 use Rattle.present_command.specs.Presented.{Presents}
 use Rattle.requests.specs.Requests.{Request}
 use Rattle.requests.specs.Requests.Request.{Check, Solve, SolveMany, SolveLines, Series, Show, Describe, Play, PlayLines, Present, Catalogue, Desk}
-use Rattle.requests.specs.Requests.Request.{Infinite, ShowInfinite, PlayInfinite, PlayInfiniteLines}
+use Rattle.requests.specs.Requests.Request.{Compare, Infinite, ShowInfinite, PlayInfinite, PlayInfiniteLines}
 use Rattle.series_command.specs.Series.{IsSeries}
 use Rattle.show_command.specs.Shown.{Shows}
 use Rattle.solve_command.specs.Many.{AnswersCodes, SolvesLines}
@@ -40,6 +41,9 @@ Says input before after (Play file position limit) text succeeds =
     Plays (AreGiven input before file) limit position text succeeds
 Says input before after (PlayLines file limit) text succeeds =
     PlaysLines (AreFileOf before file) limit (AreLinesOf input) text succeeds
+Says input before after (Compare first second limit) text succeeds =
+    Compares (AreGiven input before first) (AreGiven (left_behind first input) before second) limit
+    text succeeds
 Says input before after (Present presentation) text succeeds = Presents presentation text succeeds
 Says input before after (Catalogue file task limit) text succeeds =
     KeepsCatalogue limit before after file task text succeeds

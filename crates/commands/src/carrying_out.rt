@@ -10,6 +10,7 @@ ghost use Rattle.requests.specs.Requests.{request_of};
 use catalogue_command::act;
 use check_command::check;
 use command_results::{Noted, Said, Stop};
+use compare_command::compare;
 use describe_command::describe;
 use descriptions::Form;
 use folders::Folder;
@@ -102,6 +103,11 @@ fn say<'a, F: Folder, S: Source>(
             limit,
         } => play(alloc, file, position, limit, folder, input),
         Plan::PlayLines { file, limit } => play_lines(alloc, file, limit, folder, input),
+        Plan::Compare {
+            first,
+            second,
+            limit,
+        } => compare(alloc, first, second, limit, folder, input),
         Plan::Infinite { file, limit } => infinite(alloc, file, limit, folder, input),
         Plan::ShowInfinite {
             file,
