@@ -93,6 +93,7 @@ def tries(commands: Commands, chance: random.Random, text: bytes) -> Iterator[tu
     yield [b"play", b"x.mqc", word(POSITIONS, chance)], b""
     yield [b"play", b"x.mqc", b"-"], lines_of(POSITIONS, chance)
     yield [b"compare", b"x.mqc", word([b"x.mqc", b"-", b"nowhere"], chance)], text
+    yield [b"certify", word([b"x.mqc", b"-", b"nowhere"], chance)], text
     yield [b"infinite", b"x.mqi"], b""
     yield [b"infinite", b"x.mqi", word(POSITIONS, chance)], b""
     yield [b"infinite", b"x.mqi", b"-"], lines_of(POSITIONS, chance)

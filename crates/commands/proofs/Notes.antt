@@ -9,7 +9,7 @@ use Rattle.requests.specs.declared.plans.Output.{Output}
 use Rattle.requests.specs.declared.plans.Output.TheVariants.{Description, Latex, Json, Relations, Singular, Gap}
 use Rattle.requests.specs.Requests.{Request}
 use Rattle.requests.specs.Requests.Request.{Check, Solve, SolveMany, SolveLines, Series, Show, Describe, Play, PlayLines, Present, Catalogue, Desk}
-use Rattle.requests.specs.Requests.Request.{Compare, Infinite, ShowInfinite, PlayInfinite, PlayInfiniteLines}
+use Rattle.requests.specs.Requests.Request.{Compare, Certify, Infinite, ShowInfinite, PlayInfinite, PlayInfiniteLines}
 
 -- what has no text is nothing
 pub option_none : (told : Option (Bor (List ℕ)))
@@ -44,6 +44,7 @@ module _ (input : Option (List ℕ)) (before after : Option (List ℕ → Option
   plainly (Play file position limit) text succeeds h = (h, refl)
   plainly (PlayLines file limit) text succeeds h = (h, refl)
   plainly (Compare first second limit) text succeeds h = (h, refl)
+  plainly (Certify file limit) text succeeds h = (h, refl)
   plainly (Present presentation) text succeeds h = (h, refl)
   plainly (Catalogue file task limit) text succeeds h = (h, refl)
   plainly (Desk script) text succeeds h = (h, refl)
@@ -67,6 +68,7 @@ module _ (input : Option (List ℕ)) (before after : Option (List ℕ → Option
   silent (Play file position limit) text succeeds told e h = h.1
   silent (PlayLines file limit) text succeeds told e h = h.1
   silent (Compare first second limit) text succeeds told e h = h.1
+  silent (Certify file limit) text succeeds told e h = h.1
   silent (Present presentation) text succeeds told e h = h.1
   silent (Catalogue file task limit) text succeeds told e h = h.1
   silent (Desk script) text succeeds told e h = h.1

@@ -2,6 +2,7 @@
 use Rattle.std.specs.Prelude.{ℕ, ◌||◌, Bool, true, false, List, Option, Some, None, is_none, is_some}
 use Rattle.catalogue_command.specs.Stops as catalogue
 use Rattle.catalogue_command.specs.Tasks.{StopsTask}
+use Rattle.certify_command.specs.Certifies.{IsTableCause}
 use Rattle.check_command.specs.Checks as check
 use Rattle.check_command.specs.Checks.{IsGivenCause}
 use Rattle.compare_command.specs.Compared.{IsCompareCause}
@@ -13,8 +14,9 @@ use Rattle.play_command.specs.Plays.{IsPlayCause}
 use Rattle.requests.specs.declared.plans.Output.TheVariants.{Relations}
 use Rattle.requests.specs.Requests.{Request}
 use Rattle.requests.specs.Requests.Request.{Check, Solve, SolveMany, SolveLines, Series, Show, Describe, Play, PlayLines, Present, Catalogue, Desk}
-use Rattle.requests.specs.Requests.Request.{Compare, Infinite, ShowInfinite, PlayInfinite, PlayInfiniteLines}
+use Rattle.requests.specs.Requests.Request.{Compare, Certify, Infinite, ShowInfinite, PlayInfinite, PlayInfiniteLines}
 use Rattle.solve_command.specs.Solved.{IsSolveCause}
+use Rattle.verdict_texts.specs.Streams.{AreKnownAs}
 
 -- How often each device has failed that a command reads or changes.
 pub record Failed : Type 0 where
@@ -49,6 +51,8 @@ IsCause input (PlayLines file limit) before after stop =
     IsPlayLinesCause file (AreLinesOf input) (given before) (given after) stop
 IsCause input (Compare first second limit) before after stop =
     IsCompareCause first second (given before) (given after) stop
+IsCause input (Certify file limit) before after stop =
+    IsTableCause (AreKnownAs input) file (given before) (given after) stop
 IsCause input (Present text) before after stop = IsMemory stop
 IsCause input (Catalogue file task limit) before after stop =
     StopsTask file task (catalogue.failed before.reads before.writes)
@@ -71,6 +75,7 @@ reads_input (Some (Describe file output basis limit)) = is_none file
 reads_input (Some (Play file position limit)) = is_none file
 reads_input (Some (PlayLines file limit)) = true
 reads_input (Some (Compare first second limit)) = is_none first || is_none second
+reads_input (Some (Certify file limit)) = is_none file
 reads_input (Some (SolveLines bounds)) = true
 reads_input (Some (Infinite file limit)) = is_none file
 reads_input (Some (ShowInfinite file layout limit)) = is_none file
@@ -86,6 +91,7 @@ takes_files (Some (Describe file output basis limit)) = is_some file
 takes_files (Some (Play file position limit)) = is_some file
 takes_files (Some (PlayLines file limit)) = true
 takes_files (Some (Compare first second limit)) = is_some first || is_some second
+takes_files (Some (Certify file limit)) = is_some file
 takes_files (Some (Catalogue file task limit)) = true
 takes_files (Some (Desk script)) = true
 takes_files (Some (Infinite file limit)) = is_some file

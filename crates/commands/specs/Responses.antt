@@ -2,6 +2,7 @@
 -- told beside it. This project's own.
 use Rattle.std.specs.Prelude.{◌≡◌, ℕ, Bool, List, Option, None}
 use Rattle.catalogue_command.specs.Tasks.{KeepsCatalogue, catalogue_written}
+use Rattle.certify_command.specs.Certifies.{Certifies}
 use Rattle.check_command.specs.Checks.{AreGiven, Checks}
 use Rattle.command_results.specs.Lines.{AreLinesOf}
 use Rattle.compare_command.specs.Compared.{Compares, left_behind}
@@ -15,7 +16,7 @@ use Rattle.play_command.specs.Plays.{Plays}
 use Rattle.present_command.specs.Presented.{Presents}
 use Rattle.requests.specs.Requests.{Request}
 use Rattle.requests.specs.Requests.Request.{Check, Solve, SolveMany, SolveLines, Series, Show, Describe, Play, PlayLines, Present, Catalogue, Desk}
-use Rattle.requests.specs.Requests.Request.{Compare, Infinite, ShowInfinite, PlayInfinite, PlayInfiniteLines}
+use Rattle.requests.specs.Requests.Request.{Compare, Certify, Infinite, ShowInfinite, PlayInfinite, PlayInfiniteLines}
 use Rattle.series_command.specs.Series.{IsSeries}
 use Rattle.show_command.specs.Shown.{Shows}
 use Rattle.solve_command.specs.Many.{AnswersCodes, SolvesLines}
@@ -44,6 +45,8 @@ Says input before after (PlayLines file limit) text succeeds =
 Says input before after (Compare first second limit) text succeeds =
     Compares (AreGiven input before first) (AreGiven (left_behind first input) before second) limit
     text succeeds
+Says input before after (Certify file limit) text succeeds =
+    Certifies (AreGiven input before file) limit text succeeds
 Says input before after (Present presentation) text succeeds = Presents presentation text succeeds
 Says input before after (Catalogue file task limit) text succeeds =
     KeepsCatalogue limit before after file task text succeeds

@@ -8,6 +8,7 @@ ghost use Rattle.describe_command.specs.Described.{form_of};
 ghost use Rattle.requests.specs.Requests.{request_of};
 
 use catalogue_command::act;
+use certify_command::certify;
 use check_command::check;
 use command_results::{Noted, Said, Stop};
 use compare_command::compare;
@@ -108,6 +109,7 @@ fn say<'a, F: Folder, S: Source>(
             second,
             limit,
         } => compare(alloc, first, second, limit, folder, input),
+        Plan::Certify { file, limit } => certify(alloc, file, limit, folder, input),
         Plan::Infinite { file, limit } => infinite(alloc, file, limit, folder, input),
         Plan::ShowInfinite {
             file,
