@@ -3,15 +3,18 @@
 use Rattle.std.specs.Prelude.{◌≡◌, ℕ, Bool, true, false, List, Option, Some, None}
 use Rattle.folders.specs.Files.{Replaces}
 use Rattle.requests.specs.Requests.{CatalogueRequest}
-use Rattle.requests.specs.Requests.CatalogueRequest.{Print, New, Add, NewWith, Get, Salvage, Migrate}
+use Rattle.requests.specs.Requests.CatalogueRequest.{Print, Table, New, Add, NewWith, Get, Salvage, Migrate}
 use Rattle.catalogue_command.specs.Answers.{Adds, Creates, Gets, Lists, Migrates, Salvages}
 use Rattle.catalogue_command.specs.Stops.{Failed, StopsAdd, StopsCreate, StopsGet, StopsList, StopsSalvage}
+use Rattle.catalogue_command.specs.Tables.{Tables}
 use Rattle.command_results.specs.declared.stop.Stop.{Stop}
 
 -- what is said of a catalogue file, and what it holds then, by the files before and after
 abbrev pub KeepsCatalogue : ℕ → Option (List ℕ → Option (List ℕ))
     → Option (List ℕ → Option (List ℕ)) → List ℕ → CatalogueRequest → List ℕ → Bool → Type 0
 KeepsCatalogue limit before after file Print text succeeds = Lists limit before file succeeds text
+KeepsCatalogue limit before after file (Table json) text succeeds =
+    Tables json limit before file succeeds text
 KeepsCatalogue limit before after file New text succeeds = Creates before after file succeeds text
 KeepsCatalogue limit before after file (Add certificate) text succeeds =
     Adds false limit before after file certificate succeeds text
@@ -32,6 +35,7 @@ file_if file false = None
 -- the catalogue file, where the task writes it
 abbrev pub catalogue_written : List ℕ → CatalogueRequest → Bool → Option (List ℕ)
 catalogue_written file Print succeeds = None
+catalogue_written file (Table json) succeeds = None
 catalogue_written file New succeeds = file_if file succeeds
 catalogue_written file (Add certificate) succeeds = file_if file succeeds
 catalogue_written file (NewWith certificate) succeeds = file_if file succeeds
@@ -48,6 +52,7 @@ Leaves (Some file) before after = (bytes : List ℕ) × Replaces before after fi
 -- why a task upon a catalogue file stops
 abbrev pub StopsTask : List ℕ → CatalogueRequest → Failed → Failed → Stop → Type 0
 StopsTask file Print before after stop = StopsList file before after stop
+StopsTask file (Table json) before after stop = StopsList file before after stop
 StopsTask file New before after stop = StopsCreate before after stop
 StopsTask file (Add certificate) before after stop =
     StopsAdd false file certificate before after stop

@@ -9,6 +9,7 @@ use crate::finding::get;
 use crate::listing::list;
 use crate::migrating::migrate;
 use crate::salvaging::salvage;
+use crate::tabling::table;
 use command_results::{Said, Stop};
 use folders::Folder;
 use requests::CatalogueTask;
@@ -38,6 +39,7 @@ pub fn act<'a, F: Folder>(
 {
     match task {
         CatalogueTask::Print => list(alloc, folder, file, limit),
+        CatalogueTask::Table { json } => table(alloc, folder, file, json, limit),
         CatalogueTask::New => create(alloc, folder, file),
         CatalogueTask::Add(certificate) => add(alloc, folder, file, certificate, false, limit),
         CatalogueTask::NewWith(certificate) => add(alloc, folder, file, certificate, true, limit),
