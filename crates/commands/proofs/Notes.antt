@@ -9,7 +9,7 @@ use Rattle.requests.specs.declared.plans.Output.{Output}
 use Rattle.requests.specs.declared.plans.Output.TheVariants.{Description, Latex, Json, Relations, Singular, Gap}
 use Rattle.requests.specs.Requests.{Request}
 use Rattle.requests.specs.Requests.Request.{Check, Solve, SolveMany, SolveLines, Series, Show, Describe, Play, PlayLines, Present, Catalogue, Desk}
-use Rattle.requests.specs.Requests.Request.{Compare, Certify, Infinite, ShowInfinite, PlayInfinite, PlayInfiniteLines}
+use Rattle.requests.specs.Requests.Request.{Explain, Compare, Certify, SolveInfinite, Infinite, ShowInfinite, PlayInfinite, PlayInfiniteLines}
 
 -- what has no text is nothing
 pub option_none : (told : Option (Bor (List ℕ)))
@@ -35,9 +35,11 @@ module _ (input : Option (List ℕ)) (before after : Option (List ℕ → Option
       → Says input before after request text succeeds
       → RespondsWith input before after request text succeeds None
   plainly (Check file limit) text succeeds h = (h, refl)
+  plainly (Explain file) text succeeds h = (h, refl)
   plainly (Solve code bounds) text succeeds h = (h, refl)
   plainly (SolveMany codes bounds) text succeeds h = (h, refl)
   plainly (SolveLines bounds) text succeeds h = (h, refl)
+  plainly (SolveInfinite code heaps limit) text succeeds h = (h, refl)
   plainly (Series code bounds) text succeeds h = (h, refl)
   plainly (Show file limit) text succeeds h = (h, refl)
   plainly (Describe file output basis limit) text succeeds h = absurd h
@@ -58,9 +60,11 @@ module _ (input : Option (List ℕ)) (before after : Option (List ℕ → Option
       → notes (Some request) ≡ false
       → RespondsWith input before after request text succeeds told → told ≡ None
   silent (Check file limit) text succeeds told e h = h.1
+  silent (Explain file) text succeeds told e h = h.1
   silent (Solve code bounds) text succeeds told e h = h.1
   silent (SolveMany codes bounds) text succeeds told e h = h.1
   silent (SolveLines bounds) text succeeds told e h = h.1
+  silent (SolveInfinite code heaps limit) text succeeds told e h = h.1
   silent (Series code bounds) text succeeds told e h = h.1
   silent (Show file limit) text succeeds told e h = h.1
   silent (Describe file output basis limit) text succeeds told e h =

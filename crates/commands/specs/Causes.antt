@@ -14,7 +14,7 @@ use Rattle.play_command.specs.Plays.{IsPlayCause}
 use Rattle.requests.specs.declared.plans.Output.TheVariants.{Relations}
 use Rattle.requests.specs.Requests.{Request}
 use Rattle.requests.specs.Requests.Request.{Check, Solve, SolveMany, SolveLines, Series, Show, Describe, Play, PlayLines, Present, Catalogue, Desk}
-use Rattle.requests.specs.Requests.Request.{Compare, Certify, Infinite, ShowInfinite, PlayInfinite, PlayInfiniteLines}
+use Rattle.requests.specs.Requests.Request.{Explain, Compare, Certify, SolveInfinite, Infinite, ShowInfinite, PlayInfinite, PlayInfiniteLines}
 use Rattle.solve_command.specs.Solved.{IsSolveCause}
 use Rattle.verdict_texts.specs.Streams.{AreKnownAs}
 
@@ -36,10 +36,13 @@ given f = check.failed f.input f.reads
 abbrev pub IsCause : Option (List ℕ) → Request → Failed → Failed → Stop → Type 0
 IsCause input (Check file limit) before after stop =
     IsGivenCause file (given before) (given after) stop
+IsCause input (Explain file) before after stop =
+    IsGivenCause file (given before) (given after) stop
 IsCause input (Solve code bounds) before after stop = IsSolveCause code stop
 IsCause input (SolveMany codes bounds) before after stop = IsMemory stop
 IsCause input (SolveLines bounds) before after stop =
     IsLinesCause (AreLinesOf input) before.input after.input stop
+IsCause input (SolveInfinite code heaps limit) before after stop = IsSolveCause code stop
 IsCause input (Series code bounds) before after stop = IsSolveCause code stop
 IsCause input (Show file limit) before after stop =
     IsGivenCause file (given before) (given after) stop
@@ -70,6 +73,7 @@ IsCause input (PlayInfiniteLines file limit) before after stop =
 -- the request reads standard input
 abbrev pub reads_input : Option Request → Bool
 reads_input (Some (Check file limit)) = is_none file
+reads_input (Some (Explain file)) = is_none file
 reads_input (Some (Show file limit)) = is_none file
 reads_input (Some (Describe file output basis limit)) = is_none file
 reads_input (Some (Play file position limit)) = is_none file
@@ -86,6 +90,7 @@ reads_input _ = false
 -- the request reads or writes files
 abbrev pub takes_files : Option Request → Bool
 takes_files (Some (Check file limit)) = is_some file
+takes_files (Some (Explain file)) = is_some file
 takes_files (Some (Show file limit)) = is_some file
 takes_files (Some (Describe file output basis limit)) = is_some file
 takes_files (Some (Play file position limit)) = is_some file

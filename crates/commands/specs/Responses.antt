@@ -7,6 +7,7 @@ use Rattle.check_command.specs.Checks.{AreGiven, Checks}
 use Rattle.command_results.specs.Lines.{AreLinesOf}
 use Rattle.compare_command.specs.Compared.{Compares, left_behind}
 use Rattle.describe_command.specs.Described.{Describes, form_of}
+use Rattle.explain_command.specs.Explained.{ExplainsGiven}
 use Rattle.infinite_command.specs.Checks.{ChecksInfinite}
 use Rattle.infinite_command.specs.Many.{PlaysInfiniteLines}
 use Rattle.infinite_command.specs.Plays.{PlaysInfinite}
@@ -16,11 +17,12 @@ use Rattle.play_command.specs.Plays.{Plays}
 use Rattle.present_command.specs.Presented.{Presents}
 use Rattle.requests.specs.Requests.{Request}
 use Rattle.requests.specs.Requests.Request.{Check, Solve, SolveMany, SolveLines, Series, Show, Describe, Play, PlayLines, Present, Catalogue, Desk}
-use Rattle.requests.specs.Requests.Request.{Compare, Certify, Infinite, ShowInfinite, PlayInfinite, PlayInfiniteLines}
+use Rattle.requests.specs.Requests.Request.{Explain, Compare, Certify, SolveInfinite, Infinite, ShowInfinite, PlayInfinite, PlayInfiniteLines}
 use Rattle.series_command.specs.Series.{IsSeries}
 use Rattle.show_command.specs.Shown.{Shows}
 use Rattle.solve_command.specs.Many.{AnswersCodes, SolvesLines}
 use Rattle.solve_command.specs.Solved.{Solves}
+use Rattle.solve_infinite_command.specs.Found.{IsFound}
 
 -- What is said for each request, by what is left of standard input and by the files. What files
 -- hold then is said here of a catalogue alone; the other requests leave every file as it is. A
@@ -29,11 +31,15 @@ abbrev pub Says : Option (List ℕ) → Option (List ℕ → Option (List ℕ))
     → Option (List ℕ → Option (List ℕ)) → Request → List ℕ → Bool → Type 0
 Says input before after (Check file limit) text succeeds =
     Checks (AreGiven input before file) limit text succeeds
+Says input before after (Explain file) text succeeds =
+    ExplainsGiven (AreGiven input before file) text succeeds
 Says input before after (Solve code bounds) text succeeds = Solves code bounds text succeeds
 Says input before after (SolveMany codes bounds) text succeeds =
     AnswersCodes bounds codes text succeeds
 Says input before after (SolveLines bounds) text succeeds =
     SolvesLines (AreLinesOf input) bounds text succeeds
+Says input before after (SolveInfinite code heaps limit) text succeeds =
+    IsFound code text succeeds
 Says input before after (Series code bounds) text succeeds = IsSeries code bounds text succeeds
 Says input before after (Show file limit) text succeeds =
     Shows (AreGiven input before file) limit text succeeds

@@ -14,6 +14,7 @@ use command_results::{Noted, Said, Stop};
 use compare_command::compare;
 use describe_command::describe;
 use descriptions::Form;
+use explain_command::explain;
 use folders::Folder;
 use infinite_command::{infinite, play_infinite, play_infinite_lines, show_infinite};
 use play_command::{play, play_lines};
@@ -22,6 +23,7 @@ use requests::Plan;
 use series_command::series;
 use show_command::show;
 use solve_command::{solve, solve_lines, solve_many};
+use solve_infinite_command::solve_infinite;
 use std::alloc::Global;
 use streams::Source;
 
@@ -97,6 +99,7 @@ fn say<'a, F: Folder, S: Source>(
 {
     match plan {
         Plan::Check { file, limit } => check(alloc, file, limit, folder, input),
+        Plan::Explain { file } => explain(alloc, file, folder, input),
         Plan::Show { file, limit } => show(alloc, file, limit, folder, input),
         Plan::Play {
             file,
@@ -128,6 +131,7 @@ fn say<'a, F: Folder, S: Source>(
         Plan::Solve { code, bounds } => solve(alloc, code, bounds),
         Plan::SolveMany { codes, bounds } => solve_many(alloc, &codes, bounds),
         Plan::SolveLines { bounds } => solve_lines(alloc, bounds, input),
+        Plan::SolveInfinite { code, heaps, limit } => solve_infinite(alloc, code, heaps, limit),
         Plan::Series { code, bounds } => series(alloc, code, bounds),
         Plan::Catalogue { file, task, limit } => act(alloc, folder, file, task, limit),
         Plan::Describe { .. } | Plan::Desk { .. } => unreachable!(),

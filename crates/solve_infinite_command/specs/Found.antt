@@ -1,0 +1,30 @@
+-- What a search for a certificate of an infinite quotient says. This project's own.
+use Rattle.std.specs.Prelude.{◌≡◌, ℕ, Bool, true, false, List, ◌++◌, codes, decimal}
+use Rattle.octal_code.specs.Text.{IsCodeText}
+use Rattle.tracked_text.specs.Said.{Said}
+use Rattle.tracked_text.specs.Spelling.{Spells}
+use Rattle.infinite_answers.specs.Shown.{IsShown}
+use Rattle.infinite_finder.specs.declared.finding.Unfound.{Unfound}
+use Rattle.infinite_finder.specs.declared.finding.Unfound.TheVariants.{Finite, Shapes, Work, Refused}
+
+-- the line that says why none was found
+abbrev pub reason_line : Unfound → List ℕ
+reason_line (Finite heaps) =
+    codes "gave up: each part to heap " ++ decimal heaps
+    ++ codes " seems to have a finite quotient\n"
+reason_line (Shapes heap) =
+    codes "gave up: to heap " ++ decimal heap ++ codes " no shape that was tried is right\n"
+reason_line (Work heap) =
+    codes "gave up: to heap " ++ decimal heap ++ codes " the work that is allowed was done\n"
+reason_line Refused = codes "gave up: what was found was refused by the check\n"
+
+-- The text is that of a certificate of the code, and what it says is right: the misère quotient of its
+-- heaps is infinite. Or it says why none was found, and nothing is claimed.
+pub data Finds (code : List ℕ) : List ℕ → Bool → Type 0 where
+  Found : {text : List ℕ} (c : Said) → Spells text c → IsShown c → c.code ≡ code
+      → Finds code text true
+  GaveUp : {text : List ℕ} (why : Unfound) → text ≡ reason_line why → Finds code text false
+
+-- the word is a code's, and this is found of it
+abbrev pub IsFound : List ℕ → List ℕ → Bool → Type 0
+IsFound word text succeeds = (code : List ℕ) × IsCodeText word code × Finds code text succeeds

@@ -1,0 +1,71 @@
+//! What a search for a certificate of an infinite quotient says.
+ghost use Rattle.std.specs.Prelude.{◌≡◌, ◌↔◌, IfOk, IfErr, IsErrOf, string_bytes};
+ghost use Rattle.solve_command.specs.Solved.{IsNoCode, IsSolveCause};
+ghost use Rattle.solve_infinite_command.specs.Found.{Finds, IsFound, reason_line};
+
+use allocation::Memory;
+use command_results::{Said, Stop};
+use infinite_finder::{FoundInfinite, Unfound, find_infinite};
+use octal_code::Code;
+use std::alloc::Global;
+
+/// Why none was found, in a line.
+fn reason_line(alloc: Global, why: Unfound) -> Result<String, Memory>
+    ensures { IfOk result (λ t. string_bytes t ≡ reason_line why) }
+{
+    let text = match why {
+        Unfound::Finite { heaps } => format!(in alloc;
+            "gave up: each part to heap {heaps} seems to have a finite quotient\n"
+        )?,
+        Unfound::Shapes { heap } => format!(in alloc;
+            "gave up: to heap {heap} no shape that was tried is right\n"
+        )?,
+        Unfound::Work { heap } => format!(in alloc;
+            "gave up: to heap {heap} the work that is allowed was done\n"
+        )?,
+        Unfound::Refused => format!(in alloc;
+            "gave up: what was found was refused by the check\n"
+        )?,
+    };
+    Ok(text)
+}
+
+/// Looks for a certificate of the code, and says it, or why none was found.
+fn found(alloc: Global, code: &Code, heaps: u32, limit: u32) -> Result<Said, Memory>
+    ensures { IfOk result (λ s. Finds code.now s.text.items s.succeeds) }
+{
+    match find_infinite(alloc, code, heaps as usize, limit)? {
+        Ok(FoundInfinite { text, shown }) => {
+            drop(shown);
+            Ok(Said {
+                text,
+                succeeds: true,
+            })
+        }
+        Err(why) => Ok(Said {
+            text: reason_line(alloc, why)?.into_bytes(),
+            succeeds: false,
+        }),
+    }
+}
+
+/// Looks for the first part of the game whose code the word is, of the heaps 1 to some heap up to
+/// `heaps`, that has no finite quotient. Says the certificate with tracks that shows it, which was
+/// accepted, where at most `limit` pairs are kept; or why none was found, which claims nothing of the
+/// game.
+pub fn solve_infinite(
+    alloc: Global,
+    word: &str,
+    heaps: u32,
+    limit: u32,
+) -> Result<Said, Stop<'static>>
+    ensures says { IfOk result (λ s. IsFound word.now s.text.items s.succeeds) }
+    ensures stops { IfErr result (IsSolveCause word.now) }
+    ensures not_a_code { IsErrOf result Stop.NotACode ↔ IsNoCode word.now }
+{
+    let Ok(code) = Code::read(word.as_bytes()) else {
+        return Err(Stop::NotACode);
+    };
+    let said = found(alloc, &code, heaps, limit)?;
+    Ok(said)
+}
