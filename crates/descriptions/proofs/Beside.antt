@@ -3,16 +3,13 @@ use Rattle.std.proofs.Common.{Bool, ◌-◌, true, false, not, nat_eq, ◌≡◌
 use Rattle.std.specs.Prelude.{All}
 use Rattle.std.specs.Cmp.Lexicographic.{pointwise, same_text}
 use Rattle.std.proofs.Math.Seq.{take-length}
-use Rattle.std.proofs.lemmas.List.{append-nil, length-drop, take-append-drop}
+use Rattle.std.proofs.lemmas.List.{length-drop, take-append-drop}
 use Rattle.std.proofs.lemmas.List.Elements.{All-cons, All-nil}
 use Rattle.presentations.specs.declared.TheConstants.{LETTERS}
 use Rattle.presentations.specs.declared.read.Relation.{Relation}
 use Rattle.presentations.specs.Vectors.{zeros}
 use Rattle.descriptions.specs.Described.{HasBeside, IsBetweenPowers}
 use Rattle.descriptions.proofs.Trivial.{at-zeros}
-
-pub beside-none : (relations : List Relation) → HasBeside relations relations
-beside-none relations = ([], sym (append-nil relations), All-nil IsBetweenPowers)
 
 -- the relation 1 = 1 beside none
 pub beside-trivial : (r : Relation) → r.left ≡ zeros LETTERS → r.right ≡ zeros LETTERS

@@ -1,6 +1,6 @@
 -- Every word that no left word is in is listed: by induction, one letter more at a time.
-use Rattle.std.proofs.Common.{◌≡◌, ◌<◌, ℕ, List, length, refl, inl, inr, arith}
-use Rattle.std.specs.Prelude.{slice_index_or, Contains}
+use Rattle.std.proofs.Common.{◌≡◌, ◌<◌, ℕ, List, length, inl, inr, arith}
+use Rattle.std.specs.Prelude.{slice_index_or}
 use Rattle.std.specs.List.{Any}
 use Rattle.std.proofs.lemmas.Bool.{cases_eq}
 use Rattle.std.proofs.lemmas.List.{get_or_default}
@@ -30,10 +30,6 @@ pub reducible-vector : (n : ℕ) (relations : List Relation) (word : List ℕ)
     → IsReducible n relations word → IsReducible n relations (vector_of n word)
 reducible-vector n relations word (k, r, k_in, is, h) =
     (k, r, k_in, is, λ i lt. rw (vector-at n word i lt) (h i lt))
-
-pub listed-vector : (n : ℕ) (words : List (List ℕ)) (word : List ℕ) → Contains words word
-    → Any (λ other. vector_of n other ≡ vector_of n word) words
-listed-vector n words word (k, k_in, is) = (k, word, k_in, is, refl)
 
 module _ (n : ℕ) (words : List (List ℕ)) (relations : List Relation) (on : (k : ℕ) (d : List ℕ) → k < length words → (i : ℕ) → i < n
     → LeadsOn n words relations (slice_index_or words k d) i) where

@@ -260,9 +260,6 @@ word_end = (
   inr (refl, refl),
 )
 
-some_apart : (n m : ℕ) → Some n ≡ Some m → n ≡ m
-some_apart n m e = cc
-
 -- the order that is known
 known_order : (P : ℕ → Type 0) (order : Option ℕ) (n : ℕ) → IfSome order P → order ≡ Some n → P n
 known_order P order n h e = subst (λ (o : Option ℕ). IfSome o P) e h
