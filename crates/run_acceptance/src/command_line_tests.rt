@@ -21,6 +21,9 @@ enum Asked {
     Series(u32, u32, u32),
     Compare(Option<&'static str>, Option<&'static str>, u32),
     Certify(Option<&'static str>, u32),
+    Explain(Option<&'static str>),
+    /// A search for an infinite quotient of 0.77: the heaps and the limit.
+    SolveInfinite(u32, u32),
     Present(&'static str),
     Catalogue(&'static str, CatalogueTask<'static>, u32),
     Desk(&'static str),
@@ -138,6 +141,12 @@ fn plan_of(asked: &Asked) -> Plan<'static> {
             limit,
         },
         Asked::Certify(file, limit) => Plan::Certify { file, limit },
+        Asked::Explain(file) => Plan::Explain { file },
+        Asked::SolveInfinite(heaps, limit) => Plan::SolveInfinite {
+            code: "0.77",
+            heaps,
+            limit,
+        },
         Asked::Present(text) => Plan::Present { text },
         Asked::Catalogue(file, task, limit) => task_of(file, task, limit),
         Asked::Desk(script) => Plan::Desk { script },
@@ -173,7 +182,17 @@ impl Row for Asks {
     }
 }
 
-static ASKED: [Asks; 76] = [
+static ASKED: [Asks; 80] = [
+    Asks("explain|a.txt", Asked::Explain(Some("a.txt"))),
+    Asks("solve|0.77|--infinite", Asked::SolveInfinite(64, 100000)),
+    Asks(
+        "solve|--infinite|0.77|--heaps|1|--limit=9",
+        Asked::SolveInfinite(1, 9),
+    ),
+    Asks(
+        "solve|0.77|--infinite|--heaps=1024",
+        Asked::SolveInfinite(1024, 100000),
+    ),
     Asks("solve|0.3|--any", Asked::Aimed(256, Aim::Any, false)),
     Asks(
         "solve|--any|--order|4096|--why|0.3",
@@ -460,7 +479,8 @@ const DEEP: SolveBounds = SolveBounds {
 };
 
 /// `-` is standard input, where a certificate is asked for alone.
-static BY_INPUT: [Asks; 14] = [
+static BY_INPUT: [Asks; 15] = [
+    Asks("explain|-", Asked::Explain(None)),
     Asks(
         "compare|-|b.mqc",
         Asked::Compare(None, Some("b.mqc"), 100000),
@@ -497,8 +517,8 @@ static BY_INPUT: [Asks; 14] = [
 
 #[test]
 fn asks_for_plans(rt: HostRuntime) {
-    compare(&rt, "ASKED", count_held(rt.alloc(), &ASKED), 76);
-    compare(&rt, "BY_INPUT", count_held(rt.alloc(), &BY_INPUT), 14);
+    compare(&rt, "ASKED", count_held(rt.alloc(), &ASKED), 80);
+    compare(&rt, "BY_INPUT", count_held(rt.alloc(), &BY_INPUT), 15);
     compare(&rt, "ASKED_MANY", count_held(rt.alloc(), &ASKED_MANY), 5);
 }
 
@@ -539,7 +559,54 @@ impl Row for Refuses {
     }
 }
 
-static REFUSED: [Refuses; 176] = [
+static REFUSED: [Refuses; 190] = [
+    Refuses("explain", Why::Words),
+    Refuses("explain|a.txt|--limit|3", Why::Words),
+    Refuses("solve|--infinite", Why::Words),
+    Refuses(
+        "solve|0.77|--infinite|--heaps|0",
+        Why::Number(Quantity::SeriesLast),
+    ),
+    Refuses(
+        "solve|0.77|--infinite|--heaps|1025",
+        Why::Number(Quantity::SeriesLast),
+    ),
+    Refuses(
+        "solve|0.77|0.07|--infinite",
+        Why::Exclusive(Exclusion::SolveInfinite),
+    ),
+    Refuses(
+        "solve|-|--infinite",
+        Why::Exclusive(Exclusion::SolveInfinite),
+    ),
+    Refuses(
+        "solve|0.77|--infinite|--deep",
+        Why::Exclusive(Exclusion::SolveInfinite),
+    ),
+    Refuses(
+        "solve|0.77|--infinite|--any",
+        Why::Exclusive(Exclusion::SolveInfinite),
+    ),
+    Refuses(
+        "solve|0.77|--infinite|--why",
+        Why::Exclusive(Exclusion::SolveInfinite),
+    ),
+    Refuses(
+        "solve|0.77|--infinite|--partial|3",
+        Why::Exclusive(Exclusion::SolveInfinite),
+    ),
+    Refuses(
+        "solve|0.77|--infinite|--furthest|9",
+        Why::Exclusive(Exclusion::SolveInfinite),
+    ),
+    Refuses(
+        "solve|0.77|--infinite|--order|9",
+        Why::Exclusive(Exclusion::SolveInfinite),
+    ),
+    Refuses(
+        "solve|0.77|--infinite|--rounds|9",
+        Why::Exclusive(Exclusion::SolveInfinite),
+    ),
     Refuses("compare|-|-", Why::Exclusive(Exclusion::Compare)),
     Refuses("compare|a.mqc", Why::Words),
     Refuses("compare|a|b|--limit|0", Why::Number(Quantity::Limit)),
@@ -890,7 +957,7 @@ fn is_incomplete(alloc: Global) -> bool {
 
 #[test]
 fn tells_why_words_ask_for_nothing(rt: HostRuntime) {
-    compare(&rt, "REFUSED", count_held(rt.alloc(), &REFUSED), 176);
+    compare(&rt, "REFUSED", count_held(rt.alloc(), &REFUSED), 190);
     compare(&rt, "no command", is_incomplete(rt.alloc()), true);
 }
 

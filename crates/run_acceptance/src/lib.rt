@@ -43,6 +43,8 @@ mod show_command_tests;
 #[cfg(test)]
 mod solve_command_tests;
 #[cfg(test)]
+mod solve_infinite_tests;
+#[cfg(test)]
 mod tame;
 #[cfg(test)]
 mod third_format_tests;
