@@ -53,6 +53,7 @@ HasNumbersWithin (plan.Play file position limit) = IsWithin Limit limit
 HasNumbersWithin (plan.PlayLines file limit) = IsWithin Limit limit
 HasNumbersWithin (plan.Compare first second limit) = IsWithin Limit limit
 HasNumbersWithin (plan.Certify file limit) = IsWithin Limit limit
+HasNumbersWithin (plan.Explain file) = ⊤
 HasNumbersWithin (plan.Present text) = ⊤
 HasNumbersWithin (plan.Catalogue file asked limit) =
     TaskHasNumbersWithin asked × IsWithin Limit limit

@@ -74,6 +74,10 @@ compare = command (codes "compare")
 abbrev pub certify : App
 certify = command (codes "certify") (needed (codes "file") ∷ option (codes "limit") ∷ [])
 
+-- explain FILE
+abbrev pub explain : App
+explain = command (codes "explain") (needed (codes "file") ∷ [])
+
 -- present TEXT
 abbrev pub present : App
 present = command (codes "present") (needed (codes "text") ∷ [])
@@ -104,8 +108,8 @@ misere = record (new_app (codes "misere")) {
 
 abbrev pub commands : List App
 commands =
-    check ∷ solve ∷ series ∷ show ∷ describe ∷ play ∷ compare ∷ certify ∷ present ∷ catalogue
-    ∷ desk ∷ infinite ∷ []
+    check ∷ solve ∷ series ∷ show ∷ describe ∷ play ∷ compare ∷ certify ∷ explain ∷ present
+    ∷ catalogue ∷ desk ∷ infinite ∷ []
 
 -- the whole command line
 abbrev pub program : App

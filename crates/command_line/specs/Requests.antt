@@ -17,7 +17,7 @@ use Rattle.command_line.specs.declared.numbers.Quantity.TheVariants.{Limit, Roun
 use Rattle.requests.specs.Requests.{CatalogueRequest, Request}
 use Rattle.requests.specs.Requests.CatalogueRequest.{Print, Table, New, Add, NewWith, Get, Salvage, Migrate}
 use Rattle.requests.specs.Requests.Request.{Check, Solve, SolveMany, SolveLines, Show, Describe, Play, PlayLines, Present, Catalogue, Desk}
-use Rattle.requests.specs.Requests.Request.{Series, Compare, Certify, Infinite, ShowInfinite, PlayInfinite, PlayInfiniteLines}
+use Rattle.requests.specs.Requests.Request.{Series, Compare, Certify, Explain, Infinite, ShowInfinite, PlayInfinite, PlayInfiniteLines}
 use Rattle.requests.specs.declared.plans.Aim.{Aim}
 use Rattle.requests.specs.declared.plans.Aim.TheVariants as aim
 use Rattle.requests.specs.declared.plans.SolveBounds.{SolveBounds}
@@ -228,6 +228,10 @@ certify_with _ _ = None
 abbrev pub certify_request : List Row → Option Request
 certify_request rows = certify_with (first_of (codes "file") rows) (number_of Limit rows)
 
+abbrev pub explain_request : List Row → Option Request
+explain_request rows =
+    option_map (λ file. Explain (named_by (Some file))) (first_of (codes "file") rows)
+
 abbrev pub present_request : List Row → Option Request
 present_request rows = option_map Present (first_of (codes "text") rows)
 
@@ -421,6 +425,9 @@ compare = record {
 abbrev pub certify : Asking
 certify = record { app = Program.certify; request = certify_request; numbers = Limit ∷ []; conflicts = never; exclusion = untold }
 
+abbrev pub explain : Asking
+explain = record { app = Program.explain; request = explain_request; numbers = []; conflicts = never; exclusion = untold }
+
 abbrev pub present : Asking
 present = record { app = Program.present; request = present_request; numbers = []; conflicts = never; exclusion = untold }
 
@@ -447,8 +454,8 @@ infinite = record {
 
 abbrev pub commands : List Asking
 commands =
-    check ∷ solve ∷ series ∷ show ∷ describe ∷ play ∷ compare ∷ certify ∷ present ∷ catalogue
-    ∷ desk ∷ infinite ∷ []
+    check ∷ solve ∷ series ∷ show ∷ describe ∷ play ∷ compare ∷ certify ∷ explain ∷ present
+    ∷ catalogue ∷ desk ∷ infinite ∷ []
 
 abbrev pub command_named : Text → Option Asking
 command_named name = find (λ c. bytes_eq c.app.top.name name) commands

@@ -4,7 +4,7 @@ ghost use Rattle.clap.specs.Words.{all_of, first_of};
 ghost use Rattle.command_line.specs.Numbers.{IsWithin, number_of};
 ghost use Rattle.command_line.specs.Plans.{AimsWithin, AreWithin, HasNumbersWithin, TaskHasNumbersWithin};
 ghost use Rattle.command_line.specs.Refusals.{Answers, IsMistake, IsMistakeIn, conflicts_in};
-ghost use Rattle.command_line.specs.Requests.{arguments_of, asks_for_more, catalogue, catalogue_conflicts, certify, check, compare, describe, describe_conflicts, desk, infinite, is_deep, is_set, layout_conflicts, layout_in, named_by, output_in, play};
+ghost use Rattle.command_line.specs.Requests.{arguments_of, asks_for_more, catalogue, catalogue_conflicts, certify, check, compare, describe, describe_conflicts, desk, explain, infinite, is_deep, is_set, layout_conflicts, layout_in, named_by, output_in, play};
 ghost use Rattle.command_line.specs.Requests.{aim_in, bounds_in, order_by, order_in, present, request_in, series, show, solve, solve_conflicts, solve_with, task_in};
 ghost use Rattle.requests.specs.Requests.{catalogue_request_of, request_of};
 ghost use Rattle.requests.specs.Requests.Request.{SolveMany};
@@ -308,6 +308,13 @@ fn certify_plan<'a>(given: &ArgMatches<'a>) -> Result<Plan<'a>, UsageFault>
     Ok(Plan::Certify { file, limit })
 }
 
+fn explain_plan<'a>(given: &ArgMatches<'a>) -> Result<Plan<'a>, UsageFault>
+    ensures { Answers explain (arguments_of given.now) result }
+{
+    let file = named_by(Some(needed(given, "file")?));
+    Ok(Plan::Explain { file })
+}
+
 fn present_plan<'a>(given: &ArgMatches<'a>) -> Result<Plan<'a>, UsageFault>
     ensures { Answers present (arguments_of given.now) result }
 {
@@ -467,6 +474,7 @@ pub(crate) fn command_plan<'a>(
         "play" => play_plan(given),
         "compare" => compare_plan(given),
         "certify" => certify_plan(given),
+        "explain" => explain_plan(given),
         "present" => present_plan(given),
         "catalogue" => catalogue_plan(given),
         "desk" => desk_plan(given),

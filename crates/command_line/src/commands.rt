@@ -1,7 +1,7 @@
 //! The commands and their arguments, as `clap` reads them.
 ghost use Rattle.std.specs.Prelude.{◌≡◌, ◌++◌, ◌∷◌, [], List, IfOk, codes, false, true};
 ghost use Rattle.clap.specs.Words.{App, Rule, Text, app_of, new_app, rule_of, with_subcommand};
-ghost use Rattle.command_line.specs.Program.{catalogue, certify, check, command, compare, describe, desk, flag, infinite, misere, needed};
+ghost use Rattle.command_line.specs.Program.{catalogue, certify, check, command, compare, describe, desk, explain, flag, infinite, misere, needed};
 ghost use Rattle.command_line.specs.Program.{option, optional, play, present, program, series, several, show, solve};
 
 use clap::{Arg, ArgAction, Command};
@@ -223,6 +223,14 @@ fn certify_command<'a>(alloc: Global) -> Result<Command<'a>, AllocError>
     with_arg(made, limit(alloc))
 }
 
+fn explain_command<'a>(alloc: Global) -> Result<Command<'a>, AllocError>
+    ensures { IfOk result (λ c. app_of c ≡ explain) }
+{
+    let about = "Say why a text is no certificate's, and in which line";
+    let file = "The file of the text; as - standard input";
+    command(alloc, "explain", about).arg(needed(alloc, "file", "FILE", file))
+}
+
 fn present_command<'a>(alloc: Global) -> Result<Command<'a>, AllocError>
     ensures { IfOk result (λ c. app_of c ≡ present) }
 {
@@ -331,6 +339,7 @@ pub fn program_command<'a>(alloc: Global) -> Result<Command<'a>, AllocError>
     let program = with(program, play_command(alloc));
     let program = with(program, compare_command(alloc));
     let program = with(program, certify_command(alloc));
+    let program = with(program, explain_command(alloc));
     let program = with(program, present_command(alloc));
     let program = with(program, catalogue_command(alloc));
     let program = with(program, desk_command(alloc));

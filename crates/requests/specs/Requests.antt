@@ -33,6 +33,7 @@ pub data Request : Type 0 where
   PlayLines : List ℕ → ℕ → Request
   Compare : Option (List ℕ) → Option (List ℕ) → ℕ → Request
   Certify : Option (List ℕ) → ℕ → Request
+  Explain : Option (List ℕ) → Request
   Present : List ℕ → Request
   Catalogue : List ℕ → CatalogueRequest → ℕ → Request
   Desk : List ℕ → Request
@@ -68,6 +69,7 @@ request_of (plan.PlayLines file limit) = PlayLines file.now limit
 request_of (plan.Compare first second limit) =
     Compare (option_map (λ f. f.now) first) (option_map (λ f. f.now) second) limit
 request_of (plan.Certify file limit) = Certify (option_map (λ f. f.now) file) limit
+request_of (plan.Explain file) = Explain (option_map (λ f. f.now) file)
 request_of (plan.Present text) = Present text.now
 request_of (plan.Catalogue file asked limit) =
     Catalogue file.now (catalogue_request_of asked) limit

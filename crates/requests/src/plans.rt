@@ -110,6 +110,10 @@ pub enum Plan<'a> {
         file: Option<&'a str>,
         limit: u32,
     },
+    /// Tell why the text in the file, or on standard input where no file is named, is no certificate's.
+    Explain {
+        file: Option<&'a str>,
+    },
     /// Print the monoid that the text presents.
     Present {
         text: &'a str,

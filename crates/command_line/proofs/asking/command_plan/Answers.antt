@@ -9,7 +9,7 @@ use Rattle.command_line.specs.Plans.{HasNumbersWithin}
 use Rattle.command_line.specs.Refusals.{Answers, IsMistake, IsMistakeIn, IsMistakeOf, conflicts_in}
 use Rattle.command_line.specs.Requests.{Asking, command_named, request_in}
 use Rattle.command_line.specs.Requests.{check, solve, series, show, describe, play, compare, certify}
-use Rattle.command_line.specs.Requests.{present, catalogue, desk}
+use Rattle.command_line.specs.Requests.{explain, present, catalogue, desk}
 use Rattle.requests.specs.Requests.{request_of}
 use Rattle.requests.specs.declared.plans.Plan.{Plan}
 use Rattle.command_line.specs.declared.faults.UsageFault.{UsageFault}
@@ -33,9 +33,10 @@ passed false x rest e r = r
 unnamed : (name : Text) → (name ≡ codes "check" → ⊥) → (name ≡ codes "solve" → ⊥)
     → (name ≡ codes "series" → ⊥) → (name ≡ codes "show" → ⊥) → (name ≡ codes "describe" → ⊥)
     → (name ≡ codes "play" → ⊥) → (name ≡ codes "compare" → ⊥) → (name ≡ codes "certify" → ⊥)
-    → (name ≡ codes "present" → ⊥) → (name ≡ codes "catalogue" → ⊥)
+    → (name ≡ codes "explain" → ⊥) → (name ≡ codes "present" → ⊥) → (name ≡ codes "catalogue" → ⊥)
     → (name ≡ codes "desk" → ⊥) → (name ≡ codes "infinite" → ⊥) → command_named name ≡ None
-unnamed name check solve series show describe play compare certify present catalogue desk infinite =
+unnamed name check solve series show describe play compare certify explain present catalogue desk
+    infinite =
     passed _ _ _ (other name (codes "check") check)
     (passed _ _ _ (other name (codes "solve") solve)
     (passed _ _ _ (other name (codes "series") series)
@@ -44,10 +45,11 @@ unnamed name check solve series show describe play compare certify present catal
     (passed _ _ _ (other name (codes "play") play)
     (passed _ _ _ (other name (codes "compare") compare)
     (passed _ _ _ (other name (codes "certify") certify)
+    (passed _ _ _ (other name (codes "explain") explain)
     (passed _ _ _ (other name (codes "present") present)
     (passed _ _ _ (other name (codes "catalogue") catalogue)
     (passed _ _ _ (other name (codes "desk") desk)
-    (passed _ _ _ (other name (codes "infinite") infinite) refl)))))))))))
+    (passed _ _ _ (other name (codes "infinite") infinite) refl))))))))))))
 
 -- what the command of the name answers
 module _ (name : Text) (rows : List Row) (command : Asking) (is : command_named name ≡ Some command)
@@ -96,8 +98,8 @@ returns-in_default-clause-nothing c = λ _.
     (unnamed c.args.name.now c.in_default.not-check c.in_default.not-solve
     c.in_default.not-series c.in_default.not-show c.in_default.not-describe
     c.in_default.not-play c.in_default.not-compare c.in_default.not-certify
-    c.in_default.not-present c.in_default.not-catalogue c.in_default.not-desk
-    c.in_default.not-infinite)
+    c.in_default.not-explain c.in_default.not-present c.in_default.not-catalogue
+    c.in_default.not-desk c.in_default.not-infinite)
 
 pub returns-in_default-clause-fault : goal.returns-in_default-clause-fault
 returns-in_default-clause-fault c = λ _.
@@ -105,5 +107,5 @@ returns-in_default-clause-fault c = λ _.
     (sym (unnamed c.args.name.now c.in_default.not-check c.in_default.not-solve
     c.in_default.not-series c.in_default.not-show c.in_default.not-describe
     c.in_default.not-play c.in_default.not-compare c.in_default.not-certify
-    c.in_default.not-present c.in_default.not-catalogue c.in_default.not-desk
-    c.in_default.not-infinite)) refl
+    c.in_default.not-explain c.in_default.not-present c.in_default.not-catalogue
+    c.in_default.not-desk c.in_default.not-infinite)) refl

@@ -1,5 +1,5 @@
 use Rattle.std.proofs.Common.{refl}
-use Rattle.command_line.specs.Program.{catalogue, certify, check, compare, describe, desk, infinite, misere, play, present, series, show, solve}
+use Rattle.command_line.specs.Program.{catalogue, certify, check, compare, describe, desk, explain, infinite, misere, play, present, series, show, solve}
 use Rattle.command_line.proofs.commands.program_command.Goals as goal
 
 pub returns : goal.returns
@@ -13,7 +13,8 @@ returns c =
     let six = c.with-program-6.ensures _ play five c.play_command.ensures refl in
     let seven = c.with-program-7.ensures _ compare six c.compare_command.ensures refl in
     let eight = c.with-program-8.ensures _ certify seven c.certify_command.ensures refl in
-    let nine = c.with-program-9.ensures _ present eight c.present_command.ensures refl in
-    let ten = c.with-program-10.ensures _ catalogue nine c.catalogue_command.ensures refl in
-    let eleven = c.with-program-11.ensures _ desk ten c.desk_command.ensures refl in
-    c.with.ensures _ infinite eleven c.infinite_command.ensures refl
+    let nine = c.with-program-9.ensures _ explain eight c.explain_command.ensures refl in
+    let ten = c.with-program-10.ensures _ present nine c.present_command.ensures refl in
+    let eleven = c.with-program-11.ensures _ catalogue ten c.catalogue_command.ensures refl in
+    let twelve = c.with-program-12.ensures _ desk eleven c.desk_command.ensures refl in
+    c.with.ensures _ infinite twelve c.infinite_command.ensures refl
