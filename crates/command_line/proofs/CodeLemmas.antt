@@ -4,7 +4,7 @@ use Rattle.std.proofs.Common.{Option, Some, None, is_some, codes, option_map, op
 use Rattle.std.specs.Prelude.{slice_get}
 use Rattle.std.specs.Str.{bytes_eq}
 use Rattle.clap.specs.Words.{Row, Text, all_of}
-use Rattle.command_line.specs.Requests.{bounds_in, is_given, solve_request, solve_with}
+use Rattle.command_line.specs.Requests.{bounds_in, is_given, search_request, solve_with}
 
 first_none : (o : Option Row) → None ≡ option_map (λ (r : Row). r.values) o
     → option_and_then (λ (r : Row). slice_get r.values 0) o ≡ None
@@ -20,7 +20,7 @@ first_empty (Some r) values e h =
 
 -- no code is given
 pub none_given : (rows : List Row) → None ≡ all_of (codes "code") rows
-    → (solve_request rows ≡ None) × ((not (is_given (codes "code") rows) || false) ≡ true)
+    → (search_request rows ≡ None) × ((not (is_given (codes "code") rows) || false) ≡ true)
 none_given rows e = (
   ap (λ (a : Option (List Text)). solve_with (unwrap_or a []) (bounds_in rows)) (sym e),
   ap (λ (t : Option Text). not (is_some t) || false)
@@ -35,7 +35,7 @@ nothing_in (x ∷ l) h = absurd (omega arith)
 -- an empty list of codes is given
 pub empty_given : (rows : List Row) (l : List (Bor (List ℕ))) → length l < 1
     → Some (map (λ (c : Bor (List ℕ)). c.now) l) ≡ all_of (codes "code") rows
-    → (solve_request rows ≡ None) × ((not (is_given (codes "code") rows) || false) ≡ true)
+    → (search_request rows ≡ None) × ((not (is_given (codes "code") rows) || false) ≡ true)
 empty_given rows l few e =
     let none = nothing_in l few in (
       ap (λ (a : Option (List Text)). solve_with (unwrap_or a []) (bounds_in rows)) (sym e)

@@ -2,3 +2,4 @@ mod Building
 mod CodeLemmas
 mod NumberLemmas
 mod Reading
+mod SearchLemmas

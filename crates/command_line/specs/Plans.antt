@@ -46,6 +46,8 @@ HasNumbersWithin (plan.Check file limit) = IsWithin Limit limit
 HasNumbersWithin (plan.Solve code bounds) = AreWithin bounds
 HasNumbersWithin (plan.SolveMany codes bounds) = AreWithin bounds
 HasNumbersWithin (plan.SolveLines bounds) = AreWithin bounds
+HasNumbersWithin (plan.SolveInfinite code heaps limit) =
+    IsWithin SeriesLast heaps × IsWithin Limit limit
 HasNumbersWithin (plan.Series code bounds) = AreSeriesWithin bounds
 HasNumbersWithin (plan.Show file limit) = IsWithin Limit limit
 HasNumbersWithin (plan.Describe file output basis limit) = IsWithin Limit limit

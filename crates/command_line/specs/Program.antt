@@ -35,13 +35,13 @@ abbrev pub check : App
 check = command (codes "check") (optional (codes "file") ∷ option (codes "limit") ∷ [])
 
 -- solve CODE.. [--limit N] [--rounds R] [--heaps M] [--deep] [--any] [--partial M] [--furthest Q]
--- [--order Q] [--why]
+-- [--order Q] [--why] [--infinite]
 abbrev pub solve : App
 solve = command (codes "solve")
     (several (codes "code") ∷ option (codes "limit") ∷ option (codes "rounds")
     ∷ option (codes "heaps") ∷ flag (codes "deep") ∷ flag (codes "any")
     ∷ option (codes "partial") ∷ option (codes "furthest") ∷ option (codes "order")
-    ∷ flag (codes "why") ∷ [])
+    ∷ flag (codes "why") ∷ flag (codes "infinite") ∷ [])
 
 -- series CODE [--order Q] [--heaps M] [--limit N]
 abbrev pub series : App

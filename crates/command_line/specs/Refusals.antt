@@ -29,7 +29,7 @@ IsMistake command rows Memory = ⊥
 IsMistake command rows (Help text) = ⊥
 IsMistake command rows (Words text) = ⊥
 IsMistake command rows (Number quantity) =
-    Contains command.numbers quantity × (number_of quantity rows ≡ None)
+    Contains (command.numbers rows) quantity × (number_of quantity rows ≡ None)
 IsMistake command rows (Exclusive which) =
     (command.conflicts rows ≡ true) × (command.exclusion rows ≡ Some which)
 IsMistake command rows Incomplete = lacks command rows ≡ true

@@ -17,7 +17,8 @@ use Rattle.command_line.specs.declared.numbers.Quantity.TheVariants.{Limit, Roun
 use Rattle.requests.specs.Requests.{CatalogueRequest, Request}
 use Rattle.requests.specs.Requests.CatalogueRequest.{Print, Table, New, Add, NewWith, Get, Salvage, Migrate}
 use Rattle.requests.specs.Requests.Request.{Check, Solve, SolveMany, SolveLines, Show, Describe, Play, PlayLines, Present, Catalogue, Desk}
-use Rattle.requests.specs.Requests.Request.{Series, Compare, Certify, Explain, Infinite, ShowInfinite, PlayInfinite, PlayInfiniteLines}
+use Rattle.requests.specs.Requests.Request.{SolveInfinite, Series, Compare, Certify, Explain, Infinite, ShowInfinite, PlayInfinite}
+use Rattle.requests.specs.Requests.Request.{PlayInfiniteLines}
 use Rattle.requests.specs.declared.plans.Aim.{Aim}
 use Rattle.requests.specs.declared.plans.Aim.TheVariants as aim
 use Rattle.requests.specs.declared.plans.SolveBounds.{SolveBounds}
@@ -134,8 +135,8 @@ order_in rows = number_of
     rows
 
 -- two of --heaps, --deep, --any, --partial and --furthest stand together, or --furthest and --order
-abbrev pub solve_conflicts : List Row → Bool
-solve_conflicts rows =
+abbrev pub search_conflicts : List Row → Bool
+search_conflicts rows =
     let heaps = is_given (codes "heaps") rows in
     let deep = is_set (codes "deep") rows in
     let any = is_set (codes "any") rows in
@@ -166,8 +167,42 @@ solve_with (code ∷ []) (Some bounds) =
 solve_with (code ∷ next ∷ more) (Some bounds) = Some (SolveMany (code ∷ next ∷ more) bounds)
 solve_with _ _ = None
 
-abbrev pub solve_request : List Row → Option Request
-solve_request rows = solve_with (codes_in rows) (bounds_in rows)
+abbrev pub search_request : List Row → Option Request
+search_request rows = solve_with (codes_in rows) (bounds_in rows)
+
+-- the word stands for standard input
+abbrev pub is_input : Option Text → Bool
+is_input word = option_map_or (λ text. bytes_eq text (codes "-")) word false
+
+-- more than one code is given
+abbrev pub has_several : Option (List Text) → Bool
+has_several (Some (code ∷ next ∷ more)) = true
+has_several _ = false
+
+-- one of the options is given that a search for finite quotients takes alone
+abbrev pub asks_for_finite : List Row → Bool
+asks_for_finite rows =
+    is_set (codes "deep") rows || is_set (codes "any") rows || is_set (codes "why") rows
+    || is_given (codes "partial") rows || is_given (codes "furthest") rows
+    || is_given (codes "order") rows || is_given (codes "rounds") rows
+
+-- --infinite stands with several codes, with those of standard input, or with another option than
+-- --heaps and --limit
+abbrev pub infinite_search_conflicts : List Row → Bool
+infinite_search_conflicts rows =
+    is_input (first_of (codes "code") rows) || has_several (all_of (codes "code") rows)
+    || asks_for_finite rows
+
+abbrev pub infinite_search_with : Option Text → Option ℕ → Option ℕ → Option Request
+infinite_search_with (Some code) (Some last) (Some limit) = Some (SolveInfinite code last limit)
+infinite_search_with _ _ _ = None
+
+-- a part with an infinite quotient is searched for
+abbrev pub infinite_search_request : List Row → Option Request
+infinite_search_request rows =
+    if infinite_search_conflicts rows then None
+    else infinite_search_with (first_of (codes "code") rows) (number_of SeriesLast rows)
+    (number_of Limit rows)
 
 -- the series of a code
 abbrev pub series_with : Option Text → Option ℕ → Option ℕ → Option ℕ → Option Request
@@ -178,10 +213,6 @@ series_with _ _ _ _ = None
 abbrev pub series_request : List Row → Option Request
 series_request rows = series_with (first_of (codes "code") rows) (number_of Limit rows)
     (number_of DeepOrder rows) (number_of SeriesLast rows)
-
--- the word stands for standard input
-abbrev pub is_input : Option Text → Bool
-is_input word = option_map_or (λ text. bytes_eq text (codes "-")) word false
 
 -- positions on standard input are played by a file's certificate
 abbrev pub play_lines_with : Option Text → ℕ → Option Request
@@ -354,12 +385,12 @@ infinite_exclusion rows =
 
 -- ---- the commands
 
--- a command: what it is to `clap`, what it asks for, the numbers that it takes, whether options that
--- are given exclude each other, and by which fault that is told, if they do
+-- a command: what it is to `clap`, and with the arguments that are given what it asks for, the numbers
+-- that it takes, whether options exclude each other, and by which fault that is told, if they do
 pub record Asking : Type 0 where
   pub app : App
   pub request : List Row → Option Request
-  pub numbers : List Quantity
+  pub numbers : List Row → List Quantity
   pub conflicts : List Row → Bool
   pub exclusion : List Row → Option Exclusion
 
@@ -371,35 +402,59 @@ abbrev pub untold : List Row → Option Exclusion
 untold rows = None
 
 abbrev pub check : Asking
-check = record { app = Program.check; request = check_request; numbers = Limit ∷ []; conflicts = never; exclusion = untold }
+check = record { app = Program.check; request = check_request; numbers = λ rows. Limit ∷ []; conflicts = never; exclusion = untold }
+
+-- `solve` that looks for finite quotients
+abbrev pub search : Asking
+search = record {
+  app = Program.solve;
+  request = search_request;
+  numbers = λ rows.
+      Limit ∷ Rounds ∷ Heaps ∷ Order ∷ DeepOrder ∷ Last ∷ PartOrder ∷ Furthest ∷ [];
+  conflicts = search_conflicts;
+  exclusion = λ rows. Some exclusion.Solve;
+}
+
+-- `solve` that looks for an infinite one
+abbrev pub infinite_search : Asking
+infinite_search = record {
+  app = Program.solve;
+  request = infinite_search_request;
+  numbers = λ rows. Limit ∷ SeriesLast ∷ [];
+  conflicts = infinite_search_conflicts;
+  exclusion = λ rows. Some exclusion.SolveInfinite;
+}
+
+-- which of the two is meant: --infinite says it
+abbrev pub search_meant : List Row → Asking
+search_meant rows = if is_set (codes "infinite") rows then infinite_search else search
 
 abbrev pub solve : Asking
 solve = record {
   app = Program.solve;
-  request = solve_request;
-  numbers =
-      Limit ∷ Rounds ∷ Heaps ∷ Order ∷ DeepOrder ∷ Last ∷ PartOrder ∷ Furthest ∷ [];
-  conflicts = solve_conflicts;
-  exclusion = λ rows. Some exclusion.Solve;
+  request = λ rows. (search_meant rows).request rows;
+  numbers = λ rows. (search_meant rows).numbers rows;
+  conflicts = λ rows. (search_meant rows).conflicts rows;
+  exclusion = λ rows. (search_meant rows).exclusion rows;
 }
 
 abbrev pub series : Asking
 series = record {
   app = Program.series;
   request = series_request;
-  numbers = Limit ∷ DeepOrder ∷ SeriesLast ∷ [];
+  numbers = λ rows. Limit ∷ DeepOrder ∷ SeriesLast ∷ [];
   conflicts = never;
   exclusion = untold;
 }
 
 abbrev pub show : Asking
-show = record { app = Program.show; request = show_request; numbers = Limit ∷ []; conflicts = never; exclusion = untold }
+show = record { app = Program.show; request = show_request; numbers = λ rows. Limit ∷ []; conflicts = never; exclusion = untold }
 
 abbrev pub describe : Asking
 describe = record {
   app = Program.describe;
   request = describe_request;
-  numbers = Limit ∷ [];
+  numbers = λ rows. Limit ∷ [];
   conflicts = describe_conflicts;
   exclusion = describe_exclusion;
 }
@@ -408,7 +463,7 @@ abbrev pub play : Asking
 play = record {
   app = Program.play;
   request = play_request;
-  numbers = Limit ∷ [];
+  numbers = λ rows. Limit ∷ [];
   conflicts = play_conflicts;
   exclusion = λ rows. Some exclusion.Play;
 }
@@ -417,37 +472,37 @@ abbrev pub compare : Asking
 compare = record {
   app = Program.compare;
   request = compare_request;
-  numbers = Limit ∷ [];
+  numbers = λ rows. Limit ∷ [];
   conflicts = compare_conflicts;
   exclusion = λ rows. Some exclusion.Compare;
 }
 
 abbrev pub certify : Asking
-certify = record { app = Program.certify; request = certify_request; numbers = Limit ∷ []; conflicts = never; exclusion = untold }
+certify = record { app = Program.certify; request = certify_request; numbers = λ rows. Limit ∷ []; conflicts = never; exclusion = untold }
 
 abbrev pub explain : Asking
-explain = record { app = Program.explain; request = explain_request; numbers = []; conflicts = never; exclusion = untold }
+explain = record { app = Program.explain; request = explain_request; numbers = λ rows. []; conflicts = never; exclusion = untold }
 
 abbrev pub present : Asking
-present = record { app = Program.present; request = present_request; numbers = []; conflicts = never; exclusion = untold }
+present = record { app = Program.present; request = present_request; numbers = λ rows. []; conflicts = never; exclusion = untold }
 
 abbrev pub catalogue : Asking
 catalogue = record {
   app = Program.catalogue;
   request = catalogue_request;
-  numbers = Part ∷ Limit ∷ [];
+  numbers = λ rows. Part ∷ Limit ∷ [];
   conflicts = catalogue_conflicts;
   exclusion = λ rows. Some exclusion.Catalogue;
 }
 
 abbrev pub desk : Asking
-desk = record { app = Program.desk; request = desk_request; numbers = []; conflicts = never; exclusion = untold }
+desk = record { app = Program.desk; request = desk_request; numbers = λ rows. []; conflicts = never; exclusion = untold }
 
 abbrev pub infinite : Asking
 infinite = record {
   app = Program.infinite;
   request = infinite_request;
-  numbers = Limit ∷ [];
+  numbers = λ rows. Limit ∷ [];
   conflicts = infinite_conflicts;
   exclusion = infinite_exclusion;
 }

@@ -44,6 +44,8 @@ exclusion_text exclusion.Play =
     codes "misere: standard input has the certificate or the positions\n"
 exclusion_text exclusion.Solve =
     codes "misere: one of --heaps, --deep, --any, --partial and --furthest, and --furthest without --order\n"
+exclusion_text exclusion.SolveInfinite =
+    codes "misere: --infinite takes one code, and goes with --heaps and --limit alone\n"
 
 -- what is told of the fault
 abbrev pub text_of : UsageFault → Text

@@ -5,7 +5,8 @@ ghost use Rattle.command_line.specs.Numbers.{IsWithin, number_of};
 ghost use Rattle.command_line.specs.Plans.{AimsWithin, AreWithin, HasNumbersWithin, TaskHasNumbersWithin};
 ghost use Rattle.command_line.specs.Refusals.{Answers, IsMistake, IsMistakeIn, conflicts_in};
 ghost use Rattle.command_line.specs.Requests.{arguments_of, asks_for_more, catalogue, catalogue_conflicts, certify, check, compare, describe, describe_conflicts, desk, explain, infinite, is_deep, is_set, layout_conflicts, layout_in, named_by, output_in, play};
-ghost use Rattle.command_line.specs.Requests.{aim_in, bounds_in, order_by, order_in, present, request_in, series, show, solve, solve_conflicts, solve_with, task_in};
+ghost use Rattle.command_line.specs.Requests.{aim_in, bounds_in, order_by, order_in, present, request_in, search, search_conflicts, series, show, solve, solve_with, task_in};
+ghost use Rattle.command_line.specs.Requests.{asks_for_finite, has_several, infinite_search, infinite_search_conflicts, is_input};
 ghost use Rattle.requests.specs.Requests.{catalogue_request_of, request_of};
 ghost use Rattle.requests.specs.Requests.Request.{SolveMany};
 
@@ -74,14 +75,14 @@ fn check_plan<'a>(given: &ArgMatches<'a>) -> Result<Plan<'a>, UsageFault>
 /// The heaps that a search is to aim at.
 fn aim(given: &ArgMatches<'_>) -> Result<Aim, UsageFault>
     ensures aim { IfOk result (λ a. aim_in (arguments_of given.now) ≡ Some a) }
-    ensures apart { IfOk result (λ _. solve_conflicts (arguments_of given.now) ≡ false) }
+    ensures apart { IfOk result (λ _. search_conflicts (arguments_of given.now) ≡ false) }
     ensures within { (order : ℕ)
         → IsWithin (order_by (is_deep (arguments_of given.now))
         (first_of (codes "partial") (arguments_of given.now))
         (first_of (codes "furthest") (arguments_of given.now))) order
         → IfOk result (λ a. AimsWithin a order) }
     ensures none { IfErr result (λ _. aim_in (arguments_of given.now) ≡ None) }
-    ensures mistake { IfErr result (IsMistake solve (arguments_of given.now)) }
+    ensures mistake { IfErr result (IsMistake search (arguments_of given.now)) }
 {
     match (
         value(given, "heaps"),
@@ -121,7 +122,7 @@ fn order(given: &ArgMatches<'_>) -> Result<u32, UsageFault>
         (first_of (codes "partial") (arguments_of given.now))
         (first_of (codes "furthest") (arguments_of given.now)))) }
     ensures none { IfErr result (λ _. order_in (arguments_of given.now) ≡ None) }
-    ensures mistake { IfErr result (IsMistake solve (arguments_of given.now)) }
+    ensures mistake { IfErr result (IsMistake search (arguments_of given.now)) }
 {
     match (
         value(given, "furthest"),
@@ -138,10 +139,10 @@ fn order(given: &ArgMatches<'_>) -> Result<u32, UsageFault>
 /// How far a search is to go.
 fn bounds(given: &ArgMatches<'_>) -> Result<SolveBounds, UsageFault>
     ensures bounds { IfOk result (λ b. bounds_in (arguments_of given.now) ≡ Some b) }
-    ensures apart { IfOk result (λ _. solve_conflicts (arguments_of given.now) ≡ false) }
+    ensures apart { IfOk result (λ _. search_conflicts (arguments_of given.now) ≡ false) }
     ensures within { IfOk result AreWithin }
     ensures none { IfErr result (λ _. bounds_in (arguments_of given.now) ≡ None) }
-    ensures mistake { IfErr result (IsMistake solve (arguments_of given.now)) }
+    ensures mistake { IfErr result (IsMistake search (arguments_of given.now)) }
 {
     let limit = number(given, Quantity::Limit)?;
     let rounds = number(given, Quantity::Rounds)?;
@@ -192,8 +193,9 @@ fn codes_plan<'a>(
     }
 }
 
-fn solve_plan<'a>(alloc: Global, given: &ArgMatches<'a>) -> Result<Plan<'a>, UsageFault>
-    ensures { Answers solve (arguments_of given.now) result }
+/// The plan of a search for finite quotients.
+fn search_plan<'a>(alloc: Global, given: &ArgMatches<'a>) -> Result<Plan<'a>, UsageFault>
+    ensures { Answers search (arguments_of given.now) result }
 {
     let bounds = bounds(given)?;
     match codes_given(given) {
@@ -201,6 +203,71 @@ fn solve_plan<'a>(alloc: Global, given: &ArgMatches<'a>) -> Result<Plan<'a>, Usa
         Some([]) => Err(UsageFault::Incomplete),
         Some([code]) => Ok(code_plan(code, bounds)),
         Some(codes) => codes_plan(alloc, codes, bounds),
+    }
+}
+
+/// Whether more than one code was given.
+fn has_several(given: &ArgMatches<'_>) -> bool
+    ensures { result ≡ has_several (all_of (codes "code") (arguments_of given.now)) }
+{
+    match codes_given(given) {
+        None => false,
+        Some([]) => false,
+        Some([_]) => false,
+        Some(_) => true,
+    }
+}
+
+/// Whether the word stands for standard input.
+fn is_input(word: Option<&str>) -> bool
+    ensures { result ≡ is_input (option_map (λ t. t.now) word.entry) }
+{
+    match word {
+        Some("-") => true,
+        _ => false,
+    }
+}
+
+/// Whether an option was given that a search for finite quotients takes alone.
+fn asks_for_finite(given: &ArgMatches<'_>) -> bool
+    ensures { result ≡ asks_for_finite (arguments_of given.now) }
+{
+    flag(given, "deep")
+        || flag(given, "any")
+        || flag(given, "why")
+        || value(given, "partial").is_some()
+        || value(given, "furthest").is_some()
+        || value(given, "order").is_some()
+        || value(given, "rounds").is_some()
+}
+
+/// Whether what was given excludes `--infinite`.
+fn infinite_search_conflicts(given: &ArgMatches<'_>) -> bool
+    ensures { result ≡ infinite_search_conflicts (arguments_of given.now) }
+{
+    is_input(value(given, "code")) || has_several(given) || asks_for_finite(given)
+}
+
+/// The plan of a search for an infinite quotient.
+fn infinite_search_plan<'a>(given: &ArgMatches<'a>) -> Result<Plan<'a>, UsageFault>
+    ensures { Answers infinite_search (arguments_of given.now) result }
+{
+    if infinite_search_conflicts(given) {
+        return Err(UsageFault::Exclusive(Exclusion::SolveInfinite));
+    }
+    let code = needed(given, "code")?;
+    let heaps = number(given, Quantity::SeriesLast)?;
+    let limit = number(given, Quantity::Limit)?;
+    Ok(Plan::SolveInfinite { code, heaps, limit })
+}
+
+fn solve_plan<'a>(alloc: Global, given: &ArgMatches<'a>) -> Result<Plan<'a>, UsageFault>
+    ensures { Answers solve (arguments_of given.now) result }
+{
+    if flag(given, "infinite") {
+        infinite_search_plan(given)
+    } else {
+        search_plan(alloc, given)
     }
 }
 

@@ -129,6 +129,8 @@ need, and orders to 256 by default";
     let order = "Propose no quotient of more than Q elements: 2 to 256, by default 64, with \
 --deep, --any and --partial 2 to 4096";
     let why = "Tell why the search is given up";
+    let infinite = "Look for a part, the heaps 1 to some n, of which a certificate shows that its \
+quotient is infinite: n to M of --heaps, 1 to 1024, by default 64";
     let made = Ok(command(alloc, "solve", about));
     let made = with_arg(made, several(alloc, "code", "CODE", code));
     let made = with_arg(made, limit(alloc));
@@ -139,7 +141,8 @@ need, and orders to 256 by default";
     let made = with_arg(made, option(alloc, "partial", "M", part));
     let made = with_arg(made, option(alloc, "furthest", "Q", furthest));
     let made = with_arg(made, option(alloc, "order", "Q", order));
-    with_arg(made, flag(alloc, "why", why))
+    let made = with_arg(made, flag(alloc, "why", why));
+    with_arg(made, flag(alloc, "infinite", infinite))
 }
 
 fn series_command<'a>(alloc: Global) -> Result<Command<'a>, AllocError>

@@ -22,8 +22,10 @@ pub enum Exclusion {
     Layout,
     /// The certificate and the positions of `play` or `infinite`, both on standard input.
     Play,
-    /// The options of `solve` that say how far a search goes.
+    /// The options of `solve` that say how far a search goes, without `--infinite`.
     Solve,
+    /// `--infinite` of `solve` beside what it doesn't go with.
+    SolveInfinite,
 }
 
 /// Why the words ask for nothing that the program does.
@@ -78,6 +80,9 @@ fn exclusion_line(exclusion: Exclusion) -> &'static str
         Exclusion::Play => "misere: standard input has the certificate or the positions\n",
         Exclusion::Solve => {
             "misere: one of --heaps, --deep, --any, --partial and --furthest, and --furthest without --order\n"
+        }
+        Exclusion::SolveInfinite => {
+            "misere: --infinite takes one code, and goes with --heaps and --limit alone\n"
         }
     }
 }

@@ -32,7 +32,7 @@ pub enum Quantity {
     PartOrder,
     /// The most elements of the quotient of as many heaps as have so few.
     Furthest,
-    /// The last heap of a series.
+    /// The last heap of a series, or of the parts that a search for an infinite quotient looks at.
     SeriesLast,
 }
 
@@ -69,9 +69,8 @@ impl Quantity {
         }
     }
 
-    /// The name of the option. The heaps of a search, of a part and of a series have one name, and no
-    /// command takes two of them; the orders have one name, and what else is given says which one is
-    /// meant.
+    /// The name of the option. The heaps of a search, of a part and of a series have one name, and so
+    /// have the orders; the command, and what else is given, says which one is meant.
     pub fn name(self) -> &'static str
         ensures { result.now ≡ name_of self }
     {

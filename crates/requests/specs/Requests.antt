@@ -26,6 +26,7 @@ pub data Request : Type 0 where
   Solve : List ℕ → SolveBounds → Request
   SolveMany : List (List ℕ) → SolveBounds → Request
   SolveLines : SolveBounds → Request
+  SolveInfinite : List ℕ → ℕ → ℕ → Request
   Series : List ℕ → SeriesBounds → Request
   Show : Option (List ℕ) → ℕ → Request
   Describe : Option (List ℕ) → Output → Bool → ℕ → Request
@@ -59,6 +60,7 @@ request_of (plan.Check file limit) = Check (option_map (λ f. f.now) file) limit
 request_of (plan.Solve code bounds) = Solve code.now bounds
 request_of (plan.SolveMany codes bounds) = SolveMany (map (λ c. c.now) codes.items) bounds
 request_of (plan.SolveLines bounds) = SolveLines bounds
+request_of (plan.SolveInfinite code heaps limit) = SolveInfinite code.now heaps limit
 request_of (plan.Series code bounds) = Series code.now bounds
 request_of (plan.Show file limit) = Show (option_map (λ f. f.now) file) limit
 request_of (plan.Describe file output basis limit) =

@@ -65,6 +65,13 @@ pub enum Plan<'a> {
     SolveLines {
         bounds: SolveBounds,
     },
+    /// Look for a part of the code's game, the heaps 1 to some n that is at most `heaps`, of which a
+    /// certificate shows under the limit that its quotient is infinite.
+    SolveInfinite {
+        code: &'a str,
+        heaps: u32,
+        limit: u32,
+    },
     /// Print how many elements the quotients of the first heaps of a code have.
     Series {
         code: &'a str,

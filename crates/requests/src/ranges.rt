@@ -22,7 +22,7 @@ pub const MOST_HEAPS: u32 = 64;
 /// The heaps that it looks at where none are given.
 pub const DEFAULT_HEAPS: u32 = 24;
 
-/// The last heap of a series, if none is given.
+/// The last heap of a series, or of a search for an infinite quotient, if none is given.
 pub const DEFAULT_SERIES: u32 = 64;
 
 /// The least number of elements that may be allowed to a quotient.

@@ -1,11 +1,16 @@
-use Rattle.command_line.specs.Requests.{arguments_of}
-use Rattle.command_line.proofs.CodeLemmas.{empty_given, none_given}
+use Rattle.std.proofs.Common.{◌∙◌, ap, sym, refl, if◌then◌else◌, Bool}
+use Rattle.command_line.specs.Requests.{arguments_of, infinite_search, search}
+use Rattle.command_line.proofs.SearchLemmas.{meant}
 use Rattle.command_line.proofs.asking.solve_plan.Goals as goal
 
-pub returns-in-None : goal.returns-in-None
-returns-in-None c = none_given (arguments_of c.args.given.now) c.in-None.ensures
+pub returns-then-flag : goal.returns-then-flag
+returns-then-flag c =
+    meant (arguments_of c.args.given.now) infinite_search
+    (ap (λ (b : Bool). if b then infinite_search else search) (sym c.flag.ensures ∙ c.if-flag.true))
+    refl c.infinite_search_plan.result c.infinite_search_plan.ensures
 
-pub returns-in-Some-empty : goal.returns-in-Some-empty
-returns-in-Some-empty c =
-    empty_given (arguments_of c.args.given.now) c.in-Some-empty.field-0.now
-    c.in-Some-empty.len_below c.in-Some-empty.ensures
+pub returns-else-flag : goal.returns-else-flag
+returns-else-flag c =
+    meant (arguments_of c.args.given.now) search
+    (ap (λ (b : Bool). if b then infinite_search else search) (sym c.flag.ensures ∙ c.if-flag.false))
+    refl c.search_plan.result c.search_plan.ensures
