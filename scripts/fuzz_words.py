@@ -94,6 +94,7 @@ def tries(commands: Commands, chance: random.Random, text: bytes) -> Iterator[tu
     yield [b"play", b"x.mqc", b"-"], lines_of(POSITIONS, chance)
     yield [b"compare", b"x.mqc", word([b"x.mqc", b"-", b"nowhere"], chance)], text
     yield [b"certify", word([b"x.mqc", b"-", b"nowhere"], chance)], text
+    yield [b"explain", word([b"x.mqc", b"-", b"nowhere"], chance)], text
     yield [b"infinite", b"x.mqi"], b""
     yield [b"infinite", b"x.mqi", word(POSITIONS, chance)], b""
     yield [b"infinite", b"x.mqi", b"-"], lines_of(POSITIONS, chance)
@@ -104,6 +105,7 @@ def tries(commands: Commands, chance: random.Random, text: bytes) -> Iterator[tu
     yield [b"solve", b"-", b"--heaps", b"12", b"--rounds", b"2"], lines_of(CODES, chance)
     yield [b"solve", word(CODES, chance), b"--any", b"--order", b"8", b"--rounds", b"2"], b""
     yield [b"series", word(CODES, chance), b"--order", b"12", b"--heaps", b"6"], b""
+    yield [b"solve", word(CODES, chance), b"--infinite", b"--heaps", b"5"], b""
     yield [b"catalogue", b"x.json"], b""
     yield [b"catalogue", b"x.json", b"--table", *chance.sample([b"--json"], chance.randrange(2))], b""
     yield [b"catalogue", b"x.json", b"--get", word(CODES, chance)], b""
