@@ -1,7 +1,7 @@
 use Rattle.std.proofs.Common.{◌≡◌, [], arith, refl}
 use Rattle.std.specs.Prelude.{vec_len}
 use Rattle.std.proofs.lemmas.List.{nil_from_length}
-use Rattle.descriptions.proofs.Beside.{beside-none, beside-trivial}
+use Rattle.descriptions.proofs.Beside.{beside-trivial}
 use Rattle.descriptions.proofs.Trivial.{trivial-presents, trivial-printable}
 use Rattle.descriptions.proofs.presenting.own.Goals as goal
 
