@@ -5,16 +5,17 @@ _misere() {
         case ${COMP_WORDS[i]} in -*) ;; *) command=${COMP_WORDS[i]}; break ;; esac
     done
     case $command in
-        '') options="check solve series show describe play compare certify present catalogue desk infinite help --help --version" ;;
-        help) options="check solve series show describe play compare certify present catalogue desk infinite help" ;;
+        '') options="check solve series show describe play compare certify explain present catalogue desk infinite help --help --version" ;;
+        help) options="check solve series show describe play compare certify explain present catalogue desk infinite help" ;;
         check) options="--limit --help" ;;
-        solve) options="--limit --rounds --heaps --deep --any --partial --furthest --order --why --help" ;;
+        solve) options="--limit --rounds --heaps --deep --any --partial --furthest --order --why --infinite --help" ;;
         series) options="--order --heaps --limit --help" ;;
         show) options="--limit --help" ;;
         describe) options="--latex --basis --relations --json --singular --gap --limit --help" ;;
         play) options="--limit --help" ;;
         compare) options="--limit --help" ;;
         certify) options="--limit --help" ;;
+        explain) options="--help" ;;
         present) options="--help" ;;
         catalogue) options="--new --add --get --heaps --salvage --migrate --table --json --limit --help" ;;
         desk) options="--help" ;;
@@ -33,6 +34,6 @@ _misere() {
         COMPREPLY=($(compgen -W "$options" -- "$word"))
         return
     fi
-    case $command in check | show | describe | play | compare | certify | catalogue | desk | infinite) COMPREPLY=($(compgen -f -- "$word")) ;; esac
+    case $command in check | show | describe | play | compare | certify | explain | catalogue | desk | infinite) COMPREPLY=($(compgen -f -- "$word")) ;; esac
 }
 complete -o filenames -F _misere misere

@@ -12,12 +12,13 @@ complete -c misere -n __fish_use_subcommand -a describe -d 'Check a certificate,
 complete -c misere -n __fish_use_subcommand -a play -d 'Check a certificate, and print a winning move in a position'
 complete -c misere -n __fish_use_subcommand -a compare -d 'Check two certificates, and tell whether their quotients are isomorphic'
 complete -c misere -n __fish_use_subcommand -a certify -d 'Make a certificate of a quotient that is given by its table, and print it once it is checked'
+complete -c misere -n __fish_use_subcommand -a explain -d 'Say why a text is no certificate\'s, and in which line'
 complete -c misere -n __fish_use_subcommand -a present -d 'Print the table of the commutative monoid that relations present'
 complete -c misere -n __fish_use_subcommand -a catalogue -d 'List the certificates in a catalogue, print one, or add to them'
 complete -c misere -n __fish_use_subcommand -a desk -d 'Take the steps of a script, many checks at one desk, and print a line for each'
 complete -c misere -n __fish_use_subcommand -a infinite -d 'Check a certificate of an infinite quotient, and print what it shows'
 complete -c misere -n __fish_use_subcommand -a help -d 'Print this message or the help of the given subcommand(s)'
-complete -c misere -n '__fish_seen_subcommand_from help' -a 'check solve series show describe play compare certify present catalogue desk infinite'
+complete -c misere -n '__fish_seen_subcommand_from help' -a 'check solve series show describe play compare certify explain present catalogue desk infinite'
 complete -c misere -n __fish_use_subcommand -l help -d 'Print help'
 complete -c misere -n __fish_use_subcommand -l version -d 'Print version'
 complete -c misere -n '__fish_seen_subcommand_from check; and not __fish_seen_subcommand_from help' -F
@@ -32,6 +33,7 @@ complete -c misere -n '__fish_seen_subcommand_from solve; and not __fish_seen_su
 complete -c misere -n '__fish_seen_subcommand_from solve; and not __fish_seen_subcommand_from help' -l furthest -x -d 'Look for the most heaps 1 to M whose quotient has at most Q elements: 2 to 4096'
 complete -c misere -n '__fish_seen_subcommand_from solve; and not __fish_seen_subcommand_from help' -l order -x -d 'Propose no quotient of more than Q elements: 2 to 256, by default 64, with --deep, --any and --partial 2 to 4096'
 complete -c misere -n '__fish_seen_subcommand_from solve; and not __fish_seen_subcommand_from help' -l why -d 'Tell why the search is given up'
+complete -c misere -n '__fish_seen_subcommand_from solve; and not __fish_seen_subcommand_from help' -l infinite -d 'Look for a part, the heaps 1 to some n, of which a certificate shows that its quotient is infinite: n to M of --heaps, 1 to 1024, by default 64'
 complete -c misere -n '__fish_seen_subcommand_from solve; and not __fish_seen_subcommand_from help' -l help -d 'Print help'
 complete -c misere -n '__fish_seen_subcommand_from series; and not __fish_seen_subcommand_from help' -l order -x -d 'End before the first quotient that isn\'t found with at most Q elements: 2 to 4096, by default 256'
 complete -c misere -n '__fish_seen_subcommand_from series; and not __fish_seen_subcommand_from help' -l heaps -x -d 'End with n = M: 1 to 1024, by default 64'
@@ -58,6 +60,8 @@ complete -c misere -n '__fish_seen_subcommand_from compare; and not __fish_seen_
 complete -c misere -n '__fish_seen_subcommand_from certify; and not __fish_seen_subcommand_from help' -F
 complete -c misere -n '__fish_seen_subcommand_from certify; and not __fish_seen_subcommand_from help' -l limit -x -d 'Keep at most N members of a closure: 1 to 1000000, by default 100000'
 complete -c misere -n '__fish_seen_subcommand_from certify; and not __fish_seen_subcommand_from help' -l help -d 'Print help'
+complete -c misere -n '__fish_seen_subcommand_from explain; and not __fish_seen_subcommand_from help' -F
+complete -c misere -n '__fish_seen_subcommand_from explain; and not __fish_seen_subcommand_from help' -l help -d 'Print help'
 complete -c misere -n '__fish_seen_subcommand_from present; and not __fish_seen_subcommand_from help' -l help -d 'Print help'
 complete -c misere -n '__fish_seen_subcommand_from catalogue; and not __fish_seen_subcommand_from help' -F
 complete -c misere -n '__fish_seen_subcommand_from catalogue; and not __fish_seen_subcommand_from help' -l new -d 'Begin with an empty catalogue; FILE isn\'t read'
