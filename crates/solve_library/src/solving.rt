@@ -11,8 +11,8 @@ use solve_command::{SolveBounds, solve_bytes};
 use std::alloc::Global;
 
 /// What is asked of a search. Each number has the range that it has on a command line; of a whole
-/// game as many heaps may be looked at as a certificate can need, and where they are more than 64,
-/// the order has the range that it has with `--deep`.
+/// game as many heaps may be looked at as the certificate of an octal code can need, and where they
+/// are more than 64, the order has the range that it has with `--deep`.
 #[derive(Clone, Copy)]
 pub(crate) struct Asked {
     pub limit: u32,
