@@ -24,8 +24,9 @@ VALUES = {
 }
 # So many command lines of what the help names are tried beside those that are written here
 LINES = 6
-# The most that a search is asked for, since a longer one takes more than a run may
+# The most that a search is asked for, since a longer one takes more than a run may; and the commands that search
 MOST_OF_A_SEARCH = 16
+SEARCHES = ("solve", "series")
 
 
 def values_of(command: str, name: str, about: str) -> list[bytes]:
@@ -37,7 +38,7 @@ def values_of(command: str, name: str, about: str) -> list[bytes]:
         return VALUES[name]
     ends = [int(it) for pair in re.findall(r"(\d+) to (\d+)", about) for it in pair]
     numbers = {it + more for it in ends for more in (-1, 0, 1)} | {2, 3, 8, 16}
-    if command == "solve" and ends:
+    if command in SEARCHES and ends:
         numbers = {it for it in numbers if not MOST_OF_A_SEARCH < it <= max(ends)}
     return [b"%d" % it for it in sorted(numbers)]
 
