@@ -4,22 +4,23 @@ import {fill, make} from "../dom.js";
 
 const GAMES =
     "In an octal or hexadecimal game each digit of the code says what may be left of a heap if as many tokens are " +
-    "taken. In misère play the player who makes the last move loses. A misère quotient is a finite commutative " +
-    "monoid with an element for each heap and a portion 𝒫: a position is lost for the player to move exactly if the " +
-    "product of its heaps lies in 𝒫.";
+    "taken. In misère play the player who makes the last move loses. A misère quotient is a commutative monoid with " +
+    "an element for each heap and a portion 𝒫: a position is lost for the player to move exactly if the product of " +
+    "its heaps lies in 𝒫. It is finite for some games and infinite for others.";
 
 const PROVED = [
-  "Where the checker says yes to a full certificate, its portion predicts the misère outcome of every position of " +
+  "If the checker says yes to a full certificate, its portion predicts the misère outcome of every position of " +
       "the game, of any number of heaps of any size, and its monoid is the misère quotient. There is no premise.",
-  "Of a partial one it says so of the positions whose heaps are at most its last one.",
-  "Where it says infinite to a certificate with tracks, this tells who wins each position of the heaps of which it " +
-      "speaks, and their misère quotient is infinite: neither they nor the whole game have a finite one.",
+  "If it says yes to a partial certificate, the same holds for the game in which only the heaps up to its last one " +
+      "occur.",
+  "If it says infinite to a certificate with tracks, the certificate is right about who wins each position of its " +
+      "heaps, and their misère quotient is infinite: neither they nor the whole game have a finite one.",
   "A no is true of the bytes: the fault that is named is there. (8, 9, 33 and 34 say no more than that no yes came.)",
   "The relations, words, units, idempotents and kernel of a description are those of the certified quotient. The " +
       "outcome of a position, its element and its first winning move are true.",
   "What the finder hands out is accepted by the checker. If it finds nothing, nothing is proved.",
-  "For each certificate of the atlas Coq, another prover, has proved the same, without axioms; the page doesn’t run " +
-      "it.",
+  "For each certificate of a finite quotient in the atlas, and for some of infinite ones, Coq, another prover, has " +
+      "proved the same without axioms; the page doesn’t run it.",
 ];
 
 const TRUSTED = [
