@@ -19,8 +19,8 @@ const PROVED = [
   "The relations, words, units, idempotents and kernel of a description are those of the certified quotient. The " +
       "outcome of a position, its element and its first winning move are true.",
   "What the finder hands out is accepted by the checker. If it finds nothing, nothing is proved.",
-  "For each certificate of a finite quotient in the atlas, and for some of infinite ones, Coq, another prover, has " +
-      "proved the same without axioms; the page doesn’t run it.",
+  "For each certificate of a finite quotient in the atlas Coq, another prover, has proved the same without axioms. " +
+      "For some of the others it has proved that the quotient is infinite. The page doesn’t run it.",
 ];
 
 const TRUSTED = [
