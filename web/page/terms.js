@@ -16,7 +16,7 @@ export const TERMS = {
   "Kernel": "The least ideal: the elements that are multiples of each element.",
   "Period":
       "From a start on, a heap has the element of the heap that is smaller by the period. A partial quotient has " +
-      "none: it tells its last heap.",
+      "none: it has a last heap.",
   "Relations": "Equations between products of the generators, from which all equations between products follow.",
   "Components": "An archimedean component: the elements of which one idempotent is a power.",
   "No finite quotient":
@@ -25,12 +25,12 @@ export const TERMS = {
   "Heaps":
       "The certificate speaks of the positions of these heaps alone. No move from one of them leads to another heap.",
   "Monoid":
-      "Each heap has an element of it, and a position the product. Beside that a position has two counts a track.",
+      "Each heap has an element of it, and a position the product. Besides, a position has two counts a track.",
   "Tracks":
       "On each track a heap has two weights, its down and its up. The sums of both, of which large ones are folded " +
       "together, say with the element whether a position is P.",
   "Base": "The position beside which an up and a down cancel.",
-  "Up": "Heaps that are added: of base, base + up, base + 2·up, .. each two are told apart.",
+  "Up": "Heaps that are added: any two of base, base + up, base + 2·up, .. are told apart.",
   "Down": "Heaps that undo an up beside the base, as far as outcomes go.",
   "Same quotient": "Other codes whose certificate has the same lines but for the code.",
   "Same monoid": "Codes whose monoids and portions are isomorphic, whichever heaps have their elements.",

@@ -13,7 +13,7 @@ const USUAL_CODE = "0.75";
 const NO_CODE = "A code is such as 0.75: a first digit 0, 4, 8 or c, a point, and up to 16 digits 0 to 9 and a to f, " +
     "of which the last is not 0.";
 const HOW = "The finder guesses, and the proved checker decides: what is found is certified. " +
-    "Where nothing is found, nothing is proved.";
+    "If nothing is found, nothing is proved.";
 
 /**
  * @param {Page} page
