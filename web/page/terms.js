@@ -24,8 +24,7 @@ export const TERMS = {
       "and the other N. So they are infinitely many classes, for which no finite monoid has room.",
   "Heaps":
       "The certificate speaks of the positions of these heaps alone. No move from one of them leads to another heap.",
-  "Monoid":
-      "Each heap has an element of it, and a position the product. Besides, a position has two counts a track.",
+  "Monoid": "Each heap has an element of it, and a position the product. Besides, a position has two counts a track.",
   "Tracks":
       "On each track a heap has two weights, its down and its up. The sums of both, of which large ones are folded " +
       "together, say with the element whether a position is P.",
