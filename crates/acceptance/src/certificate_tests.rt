@@ -1,7 +1,6 @@
 //! Certificates read and written, to sinks that fail too.
 use crate::comparing::compare;
 use crate::octal_code_tests::is_written_as;
-use crate::texts::{Repeats, text_of};
 use certificate::{Cert, TextFault, WriteFault, read, write};
 use devices::{FailingSink, SlowSink};
 use std::alloc::{Allocator, Global};
@@ -57,86 +56,6 @@ row 0 1 2 3 4 5 6 7\nrow 1 0 4 5 2 3 7 6\nrow 2 4 6 4 7 2 2 4\nrow 3 5 4 6 2 7 7
 row 4 2 7 2 6 4 4 2\nrow 5 3 2 7 4 6 6 7\nrow 6 7 2 7 4 6 6 7\nrow 7 6 4 6 2 7 7 6\n\
 apart 0 1 1 1 1 0 3 0 0 0 0 5 0 2 2 2 0 1 3 3 0 1 4 0 1 0 1 0\nend\n";
 
-/// The certificate of `0.3` and, behind it, that of `0.b`, with something changed.
-static OTHERS: [&[u8]; 30] = [
-    // line ends of two bytes
-    b"mqc 1\r\ncode 0.3\r\norder 2\r\nstart 1\r\nperiod 2\r\nphi 1 0\r\nportion 1\r\nwords 0:1\r\n\
-row 0 1\r\nrow 1 0\r\napart 0\r\nend\r\n",
-    // a leading zero
-    b"mqc 1\ncode 0.3\norder 02\nstart 1\nperiod 2\nphi 1 0\nportion 1\nwords 0:1\nrow 0 1\n\
-row 1 0\napart 0\nend\n",
-    // a byte behind
-    b"mqc 1\ncode 0.3\norder 2\nstart 1\nperiod 2\nphi 1 0\nportion 1\nwords 0:1\nrow 0 1\n\
-row 1 0\napart 0\nend\n\n",
-    // a byte before
-    b" mqc 1\ncode 0.3\norder 2\nstart 1\nperiod 2\nphi 1 0\nportion 1\nwords 0:1\nrow 0 1\n\
-row 1 0\napart 0\nend\n",
-    // two spaces
-    b"mqc 1\ncode 0.3\norder 2\nstart 1\nperiod 2\nphi 1  0\nportion 1\nwords 0:1\nrow 0 1\n\
-row 1 0\napart 0\nend\n",
-    // a space at the end of a line
-    b"mqc 1\ncode 0.3\norder 2\nstart 1\nperiod 2\nphi 1 0 \nportion 1\nwords 0:1\nrow 0 1\n\
-row 1 0\napart 0\nend\n",
-    // the second format for an octal code, and versions that aren't
-    b"mqc 0\ncode 0.3\norder 2\nstart 1\nperiod 2\nphi 1 0\nportion 1\nwords 0:1\nrow 0 1\n\
-row 1 0\napart 0\nend\n",
-    b"mqc 3\ncode 0.3\norder 2\nstart 1\nperiod 2\nphi 1 0\nportion 1\nwords 0:1\nrow 0 1\n\
-row 1 0\napart 0\nend\n",
-    b"mqc 2\ncode 0.3\norder 2\nstart 1\nperiod 2\nphi 1 0\nportion 1\nwords 0:1\nrow 0 1\n\
-row 1 0\napart 0\nend\n",
-    // a code with its last digit 0
-    b"mqc 1\ncode 0.30\norder 2\nstart 1\nperiod 2\nphi 1 0\nportion 1\nwords 0:1\nrow 0 1\n\
-row 1 0\napart 0\nend\n",
-    // an order out of range
-    b"mqc 1\ncode 0.3\norder 1\nstart 1\nperiod 2\nphi 0 0\nportion 0\nwords\nrow 0\napart\nend\n",
-    b"mqc 1\ncode 0.3\norder 257\nstart 1\nperiod 2\nphi 1 0\nportion 1\nwords 0:1\nrow 0 1\n\
-row 1 0\napart 0\nend\n",
-    b"mqc 1\ncode 0.3\norder 99999999999999999999999999999999\nstart 1\nperiod 2\nphi 1 0\n\
-portion 1\nwords 0:1\nrow 0 1\nrow 1 0\napart 0\nend\n",
-    // an order with nothing behind it
-    b"mqc 1\ncode 0.3\norder 256\n",
-    // a start and a period that are 1026 together
-    b"mqc 1\ncode 0.3\norder 2\nstart 1000\nperiod 26\nphi 1 0\nportion 1\nwords 0:1\nrow 0 1\n\
-row 1 0\napart 0\nend\n",
-    // an element out of range
-    b"mqc 1\ncode 0.3\norder 2\nstart 1\nperiod 2\nphi 1 2\nportion 1\nwords 0:1\nrow 0 1\n\
-row 1 0\napart 0\nend\n",
-    // a portion that doesn't rise, and one without elements
-    b"mqc 1\ncode 0.3\norder 2\nstart 1\nperiod 2\nphi 1 0\nportion 1 1\nwords 0:1\nrow 0 1\n\
-row 1 0\napart 0\nend\n",
-    b"mqc 1\ncode 0.3\norder 2\nstart 1\nperiod 2\nphi 1 0\nportion\nwords 0:1\nrow 0 1\nrow 1 0\n\
-apart 0\nend\n",
-    // the heap 0
-    b"mqc 1\ncode 0.3\norder 2\nstart 1\nperiod 2\nphi 1 0\nportion 1\nwords 0:0\nrow 0 1\n\
-row 1 0\napart 0\nend\n",
-    // a row that is one short, and one row too few
-    b"mqc 1\ncode 0.3\norder 2\nstart 1\nperiod 2\nphi 1 0\nportion 1\nwords 0:1\nrow 0 1\nrow 1\n\
-apart 0\nend\n",
-    b"mqc 1\ncode 0.3\norder 2\nstart 1\nperiod 2\nphi 1 0\nportion 1\nwords 0:1\nrow 0 1\n\
-apart 0\nend\n",
-    // no period: in the first format, from the heap 1 on, and with 1026 or more entries
-    b"mqc 1\ncode 0.3\norder 2\nstart 1\nperiod 0\nphi 1 0\nportion 1\nwords 0:1\nrow 0 1\n\
-row 1 0\napart 0\nend\n",
-    b"mqc 1\ncode 0.3\norder 2\nstart 3\nperiod 0\nphi 1 0\nportion 1\nwords 0:1\nrow 0 1\n\
-row 1 0\napart 0\nend\n",
-    b"mqc 2\ncode 0.3\norder 2\nstart 1\nperiod 0\nphi 1 0\nportion 1\nwords 0:1\nrow 0 1\n\
-row 1 0\napart 0\nend\n",
-    b"mqc 2\ncode 0.3\norder 2\nstart 1026\nperiod 0\nphi 1 0\nportion 1\nwords 0:1\nrow 0 1\n\
-row 1 0\napart 0\nend\n",
-    // the code of three parts: in the first format, in capitals, with a last digit 0, of an order
-    // out of range, and with 1026 or more entries
-    b"mqc 1\ncode 0.b\norder 2\nstart 1\nperiod 2\nphi 1 0\nportion 1\nwords 0:1\nrow 0 1\n\
-row 1 0\napart 0\nend\n",
-    b"mqc 2\ncode 0.B\norder 2\nstart 1\nperiod 2\nphi 1 0\nportion 1\nwords 0:1\nrow 0 1\n\
-row 1 0\napart 0\nend\n",
-    b"mqc 2\ncode 0.b0\norder 2\nstart 1\nperiod 2\nphi 1 0\nportion 1\nwords 0:1\nrow 0 1\n\
-row 1 0\napart 0\nend\n",
-    b"mqc 2\ncode 0.b\norder 513\nstart 1\nperiod 2\nphi 1 0\nportion 1\nwords 0:1\nrow 0 1\n\
-row 1 0\napart 0\nend\n",
-    b"mqc 2\ncode 0.b\norder 2\nstart 1000\nperiod 26\nphi 1 0\nportion 1\nwords 0:1\nrow 0 1\n\
-row 1 0\napart 0\nend\n",
-];
-
 /// Texts that are written as they are read, and the last heap of which each speaks, or 0 where it
 /// speaks of all.
 static OWN: [(&[u8], u64); 9] = [
@@ -181,18 +100,6 @@ pub fn fault_of<A: Allocator + Copy>(alloc: A, bytes: &[u8]) -> Result<bool, Tex
         Ok(_) => Ok(true),
         Err(fault) => Err(fault),
     }
-}
-
-/// How many texts are refused as no certificate, up to the first that isn't.
-fn count_refused(alloc: Global, texts: &[&[u8]]) -> usize {
-    let mut count = 0usize;
-    for bytes in texts {
-        if !matches!(fault_of(alloc, bytes), Err(TextFault::Text)) {
-            return count;
-        }
-        count = count.saturating_add(1);
-    }
-    count
 }
 
 /// The length of the shortest beginning of the text that isn't refused as no certificate.
@@ -275,110 +182,9 @@ fn first_wrong_write(alloc: Global) -> u64 {
     99
 }
 
-/// A text, its order, its number of separations, and the last heap of which it speaks.
-type Large = (&'static [(Repeats, usize)], usize, usize, u64);
-
-/// The first format's most entries and its largest order; one element more, for an octal code; and
-/// the second format's most entries without a period, and its largest order.
-static LARGE: [Large; 3] = [
-    (
-        &[
-            (
-                &[
-                    (b"mqc 1\ncode 0.3\norder 256\nstart 1\nperiod 1024\nphi", 1),
-                    (b" 255", 1024),
-                    (b"\nportion 255\nwords", 1),
-                    (b" 255:1024", 255),
-                ],
-                1,
-            ),
-            (&[(b"\nrow", 1), (b" 255", 256)], 256),
-            (&[(b"\napart", 1), (b" 255", 32640), (b"\nend\n", 1)], 1),
-        ],
-        256,
-        32640,
-        0,
-    ),
-    (
-        &[
-            (
-                &[
-                    (
-                        b"mqc 2\ncode 0.3\norder 257\nstart 1\nperiod 2\nphi 1 256",
-                        1,
-                    ),
-                    (b"\nportion 256\nwords", 1),
-                    (b" 256:2", 256),
-                ],
-                1,
-            ),
-            (&[(b"\nrow", 1), (b" 256", 257)], 257),
-            (&[(b"\napart", 1), (b" 256", 32896), (b"\nend\n", 1)], 1),
-        ],
-        257,
-        32896,
-        0,
-    ),
-    (
-        &[
-            (
-                &[
-                    (b"mqc 2\ncode 0.3\norder 512\nstart 1025\nperiod 0\nphi", 1),
-                    (b" 511", 1024),
-                    (b"\nportion 511\nwords", 1),
-                    (b" 511:1024", 511),
-                ],
-                1,
-            ),
-            (&[(b"\nrow", 1), (b" 511", 512)], 512),
-            (&[(b"\napart", 1), (b" 511", 130816), (b"\nend\n", 1)], 1),
-        ],
-        512,
-        130816,
-        1024,
-    ),
-];
-
-/// Whether the certificate of the bytes has so many words, products and separations as the row
-/// says.
-fn is_large(alloc: Global, bytes: &[u8], row: &Large) -> bool {
-    let (_, order, separations, _) = *row;
-    match read(alloc, bytes) {
-        Ok(cert) => {
-            cert.order() as usize == order
-                && cert.words().len() == order.saturating_sub(1)
-                && cert.rows().len() == order.saturating_mul(order)
-                && cert.apart().len() == separations
-        }
-        Err(_) => false,
-    }
-}
-
-/// Whether the text of the row has its sizes and comes back.
-fn is_whole(alloc: Global, row: &Large) -> bool {
-    match text_of(alloc, row.0) {
-        Ok(text) => is_large(alloc, &text, row) && comes_back(alloc, &text, row.3),
-        Err(_) => false,
-    }
-}
-
-/// How many large texts have their sizes and come back, up to the first that doesn't.
-fn count_large(alloc: Global, rows: &[Large]) -> usize {
-    let mut count = 0usize;
-    for row in rows {
-        if !is_whole(alloc, row) {
-            return count;
-        }
-        count = count.saturating_add(1);
-    }
-    count
-}
-
-/// The last have the first two formats' most entries and largest orders, and more than 2^16 bytes.
 #[test]
 fn texts_and_certificates(rt: HostRuntime) {
     compare(&rt, "OWN", count_back(rt.alloc(), &OWN), 9);
-    compare(&rt, "OTHERS", count_refused(rt.alloc(), &OTHERS), 30);
     compare(
         &rt,
         "beginnings",
@@ -387,5 +193,4 @@ fn texts_and_certificates(rt: HostRuntime) {
     );
     compare(&rt, "lines", lines_lent(rt.alloc()), [true; 8]);
     compare(&rt, "writes", first_wrong_write(rt.alloc()), 99);
-    compare(&rt, "LARGE", count_large(rt.alloc(), &LARGE), 3);
 }

@@ -5,7 +5,6 @@ ghost use Rattle.std.specs.Prelude.{◌<◌, All, IsTrue};
 use crate::comparing::compare;
 use compact_certificates::products::push_product;
 use compact_certificates::separators::least_separators;
-use presentations::{Named, Presentation, table_of};
 use std::alloc::{AllocError, Allocator, Global};
 
 /// Whether the numbers are below the limit.
@@ -172,88 +171,7 @@ fn count_made(alloc: Global, rows: &[Worked]) -> usize {
     held
 }
 
-/// The quotient of Kayles: Plambeck and Siegel, 'Misère quotients for impartial games', with the
-/// fourth powers that follow.
-const OF_KAYLES: &str = "a^2=1 b^3=b bc^2=b c^3=c bd=bc cd=b^2 d^3=d be=bc ce=b^2 e^2=de e^4=e^2 \
-bf=ab cf=ab^2c d^2f=f f^2=b^2 f^4=f^2 b^2g=g c^2g=g dg=cg eg=cg fg=ag g^2=b^2 g^4=g^2";
-
-/// The products of Kayles, row after row, whose letters are its first elements.
-fn of_kayles(alloc: Global) -> Option<Vec<u16>> {
-    let presentation = Presentation::read(alloc, OF_KAYLES.as_bytes()).ok()?;
-    let Named { table, generators } = table_of(alloc, &presentation, 65536).ok()?;
-    let elements = generators.iter().map(|generator| generator.element);
-    if table.order() == 40 && elements.eq([1, 2, 3, 4, 5, 6, 7]) {
-        Some(table.into_rows())
-    } else {
-        None
-    }
-}
-
-/// The product of two of Kayles' elements.
-fn times(rows: &[u16], x: u16, y: u16) -> u16 {
-    let at = (x as usize).saturating_mul(40).saturating_add(y as usize);
-    match rows.get(at) {
-        Some(product) => *product,
-        None => 40,
-    }
-}
-
-/// A letter and a smaller element whose product is this element.
-fn key_of(rows: &[u16], element: u16) -> (u16, u16) {
-    for x in 0..element {
-        for letter in 1..8u16 {
-            if times(rows, x, letter) == element {
-                return (x, letter);
-            }
-        }
-    }
-    (40, 40)
-}
-
-/// Whether the rows behind those of the letters are made by letters.
-fn are_made_by_letters(alloc: Global, all: &[u16]) -> Result<bool, AllocError> {
-    let mut rows = all[..all.len().min(320)].to_vec(alloc)?;
-    for element in 8..40u16 {
-        let (x, letter) = key_of(all, element);
-        if !put_product(&mut rows, 40, x, letter)? {
-            return Ok(false);
-        }
-    }
-    Ok(rows.as_slice() == all)
-}
-
-/// The first element that takes just one of the two into the portion, or 0.
-fn first_apart(rows: &[u16], portion: &[u16], x: u16, y: u16) -> u16 {
-    for z in 0..40u16 {
-        if portion.contains(&times(rows, x, z)) != portion.contains(&times(rows, y, z)) {
-            return z;
-        }
-    }
-    0
-}
-
-/// The separators of Kayles' elements, pair by pair, found one by one.
-fn firsts_apart(alloc: Global, rows: &[u16], portion: &[u16]) -> Result<Vec<u16>, AllocError> {
-    let mut all = Vec::new(alloc);
-    for x in 0..40u16 {
-        for y in x.saturating_add(1)..40u16 {
-            all.push(first_apart(rows, portion, x, y))?;
-        }
-    }
-    Ok(all)
-}
-
-/// Whether the rows and the separators of Kayles are made, with a and b^2 as the portion.
-fn of_kayles_is_made(alloc: Global) -> Option<bool> {
-    let rows = of_kayles(alloc)?;
-    let portion = [1, times(&rows, 2, 2)];
-    let apart = firsts_apart(alloc, &rows, &portion).ok()?;
-    let made = are_made_by_letters(alloc, &rows).ok()?;
-    Some(made && are_separators(alloc, 40, &rows, &portion, &apart) == Ok(true))
-}
-
 #[test]
 fn rows_and_separators_are_made(rt: HostRuntime) {
     compare(&rt, "WORKED", count_made(rt.alloc(), &WORKED), 7);
-    compare(&rt, "Kayles", of_kayles_is_made(rt.alloc()), Some(true));
 }

@@ -15,8 +15,6 @@ mod growths;
 #[cfg(test)]
 mod guesses_tests;
 #[cfg(test)]
-mod known_monoids;
-#[cfg(test)]
 mod large_closure_tests;
 #[cfg(test)]
 mod monoid_table_tests;
@@ -40,7 +38,5 @@ mod streams_tests;
 mod texts;
 #[cfg(test)]
 mod third_format_lines_tests;
-#[cfg(test)]
-mod third_format_tests;
 #[cfg(test)]
 mod transition_algebra_tests;

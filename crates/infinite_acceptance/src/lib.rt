@@ -5,12 +5,6 @@
 #[cfg(test)]
 mod counted_states_tests;
 #[cfg(test)]
-mod infinite_checker_tests;
-#[cfg(test)]
-mod infinite_finder_tests;
-#[cfg(test)]
-mod tracked_certificate_tests;
-#[cfg(test)]
 mod tracked_moves_tests;
 #[cfg(test)]
 mod tracked_places_tests;

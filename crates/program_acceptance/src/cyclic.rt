@@ -50,8 +50,6 @@ enum Line {
     Row(u16, u16),
     /// The separating elements of an element and each greater one.
     Apart(u16, bool, u16),
-    /// A pretending function.
-    Phi,
 }
 
 /// The entry for x.
@@ -61,7 +59,6 @@ fn put_entry(alloc: Global, text: &mut Vec<u8>, line: Line, x: u16) -> bool {
         Line::Words => put(alloc, text, x.saturating_sub(1)) && put_text(text, ":1"),
         Line::Row(order, y) => put(alloc, text, times(order, y, x)),
         Line::Apart(order, last, y) => put(alloc, text, separating(order, last, y, x)),
-        Line::Phi => put(alloc, text, x % 2),
     }
 }
 
@@ -142,27 +139,4 @@ pub fn cyclic(alloc: Global, order: u16, but_the_last: bool) -> Option<Vec<u8>> 
     } else {
         None
     }
-}
-
-/// A certificate for the code with the most digits, with the longest pretending function, and so
-/// the most heaps.
-pub fn longest(alloc: Global) -> Option<Vec<u8>> {
-    let mut text = Vec::new(alloc);
-    let front = "mqc 3\ncode 0.3000000000000003\norder 2\nstart 1\nperiod 4096\nphi";
-    let back = " 1\nportion 1\nwords 0:1\nrow 1 0\nend\n";
-    let done = put_text(&mut text, front)
-        && put_line(alloc, &mut text, Line::Phi, 1, 4096)
-        && put_text(&mut text, back);
-    if done { Some(text) } else { None }
-}
-
-/// The quotient of 0.3 for the heaps up to 100.
-pub fn part(alloc: Global) -> Option<Vec<u8>> {
-    let mut text = Vec::new(alloc);
-    let front = "mqc 2\ncode 0.3\norder 2\nstart 101\nperiod 0\nphi";
-    let back = "\nportion 1\nwords 0:1\nrow 0 1\nrow 1 0\napart 0\nend\n";
-    let done = put_text(&mut text, front)
-        && put_line(alloc, &mut text, Line::Phi, 1, 101)
-        && put_text(&mut text, back);
-    if done { Some(text) } else { None }
 }

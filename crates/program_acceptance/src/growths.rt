@@ -2,7 +2,7 @@
 use crate::certificates::OF_0_33;
 use crate::comparing::bound;
 use crate::cyclic::cyclic;
-use crate::{checker_tests, desk_script_tests, verdicts_tests};
+use crate::{checks, scripts, verdicts_tests};
 use allocation::SmallAllocator;
 use ration::Ration;
 use std::alloc::Global;
@@ -22,9 +22,9 @@ enum Job<'a> {
 /// Whether the job ends right, or the number of its fault. A sink takes from `ample`.
 fn answer<A: SmallAllocator + Copy>(alloc: A, ample: Global, job: Job<'_>) -> Result<bool, u8> {
     match job {
-        Job::Yes => checker_tests::has_order_6(alloc, OF_0_33.as_bytes()),
-        Job::Refuted(bytes) => checker_tests::is_refuted(alloc, bytes),
-        Job::Script => desk_script_tests::has_six_steps(alloc),
+        Job::Yes => checks::has_order_6(alloc, OF_0_33.as_bytes()),
+        Job::Refuted(bytes) => checks::is_refuted(alloc, bytes),
+        Job::Script => scripts::has_six_steps(alloc),
         Job::Streams => verdicts_tests::is_checked(alloc, ample),
     }
 }

@@ -1,7 +1,5 @@
 //! Certificates that several modules put into folders.
 use certificate::{Cert, write};
-use requests::Aim;
-use solve_command::{SolveBounds, solve};
 use std::alloc::Global;
 use streams::MemorySink;
 
@@ -20,15 +18,6 @@ pub const OF_0_33: &str = "mqc 1\ncode 0.33\norder 6\nstart 1\nperiod 3\nphi 1 2
 words 0:1 0:2 1:2 2:2 3:2\nrow 0 1 2 3 4 5\nrow 1 0 3 2 5 4\nrow 2 3 4 5 2 3\nrow 3 2 5 4 3 2\n\
 row 4 5 2 3 4 5\nrow 5 4 3 2 5 4\napart 0 1 1 0 4 0 0 4 0 2 0 1 0 1 0\nend\n";
 
-/// The infinite quotient of 0.354 to heap 5, of order 12.
-pub const OF_0_354: &str = "mqi 1\ncode 0.354\nheaps 5\norder 12\nphi 1 2 3 4 3\n\
-track 0 0 1 8 6 6 2:3:0 3:4:0 4:2:0 5:0:1\n\
-words 0:1 0:2 0:3 0:4 1:2 2:3 2:4 3:3 3:4 6:3 6:4\nrow 1 0 5 4 3 2 7 6 9 8 11 10\n\
-row 2 5 2 6 7 5 6 7 10 11 10 11\nrow 3 4 6 8 9 7 10 11 8 9 10 11\n\
-row 4 3 7 9 8 6 11 10 9 8 11 10\nregion 1 8000\nregion 2 0008\nregion 3 4020\n\
-region 6 0020\nregion 7 0010\nregion 8 50aa\nregion 9 2000\nregion 10 502a\nregion 11 2000\n\
-base 2 4 5\nup 5 5 5 5 5 5\ndown 2 2\nend\n";
-
 /// The quotient of 0.75, of order 8.
 pub const OF_0_75: &str =
     "mqc 1\ncode 0.75\norder 8\nstart 8\nperiod 2\nphi 1 2 1 2 3 2 3 2 4\nportion 1 7\n\
@@ -43,16 +32,6 @@ words 0:1 0:2 0:5 1:2 1:5 2:2 4:2\nrow 0 1 2 3 4 5 6 7\nrow 1 0 4 5 2 3 7 6\nrow
 row 3 5 4 6 2 7 7 6\nrow 4 2 7 2 6 4 4 2\nrow 5 3 2 7 4 6 6 7\nrow 6 7 2 7 4 6 6 7\n\
 row 7 6 4 6 2 7 7 6\napart 0 1 1 1 1 0 3 0 0 0 0 5 0 2 2 2 0 1 3 3 0 1 4 0 1 0 1 0\nend\n";
 
-/// The quotient of 0.b, of order 2, in which a move may leave three heaps.
-pub const OF_0_B: &str =
-    "mqc 2\ncode 0.b\norder 2\nstart 1\nperiod 2\nphi 1 0\nportion 1\nwords 0:1\nrow 0 1\nrow 1 0\n\
-apart 0\nend\n";
-
-/// The quotient of 0.3 for the heaps up to 2.
-pub const PART_OF_0_3: &str =
-    "mqc 2\ncode 0.3\norder 2\nstart 3\nperiod 0\nphi 1 0\nportion 1\nwords 0:1\nrow 0 1\nrow 1 0\n\
-apart 0\nend\n";
-
 /// The quotient of 0.75 for the heaps up to 8.
 pub const PART_OF_0_75: &str =
     "mqc 2\ncode 0.75\norder 8\nstart 9\nperiod 0\nphi 1 2 1 2 3 2 3 2\nportion 1 6\n\
@@ -64,19 +43,4 @@ row 7 6 4 6 2 7 7 6\napart 0 1 1 1 1 0 3 0 0 0 0 5 0 2 2 2 0 1 3 3 0 1 4 0 1 0 1
 pub fn is_spelled(alloc: Global, cert: &Cert, text: &str) -> bool {
     let mut sink = MemorySink::new(alloc);
     write(cert, &mut sink).is_ok() && sink.bytes() == text.as_bytes()
-}
-
-/// The certificate of a game up to this heap, of at most 1,024 elements, that a search finds.
-pub fn found_part(alloc: Global, code: &str, last: u32) -> Option<Vec<u8>> {
-    let bounds = SolveBounds {
-        limit: 1_000_000,
-        rounds: 64,
-        order: 1024,
-        aim: Aim::Part { last },
-        tells_why: false,
-    };
-    match solve(alloc, code, bounds) {
-        Ok(said) if said.succeeds => Some(said.text),
-        _ => None,
-    }
 }

@@ -1,13 +1,26 @@
 //! What each proposer finds alone, and where memory may be wanting.
 use crate::certificates::{OF_0_1, OF_0_3, OF_0_33, OF_0_75, is_spelled};
 use crate::rows::{Row, count_held};
-use crate::solve_command_tests::OF_0_03;
-use crate::tame::OF_0_147;
 use allocation::Memory;
 use octal_code::Code;
 use proposers::{Refiner, Sampler};
 use quotient_finder::{GaveUp, Limits, Proposer, find};
 use std::alloc::Global;
+
+/// The quotient of 0.03, of order 2.
+const OF_0_03: &str =
+    "mqc 1\ncode 0.03\norder 2\nstart 1\nperiod 4\nphi 0 1 1 0\nportion 1\nwords 0:2\nrow 0 1\n\
+row 1 0\napart 0\nend\n";
+
+/// The quotient of 0.147, of order 10.
+const OF_0_147: &str =
+    "mqc 1\ncode 0.147\norder 10\nstart 10\nperiod 8\nphi 1 0 1 2 2 2 3 3 1 4 4 2 2 2 3 3 4\n\
+portion 1 7\nwords 0:1 0:4 0:7 0:10 1:4 1:7 1:10 2:7 5:7\nrow 0 1 2 3 4 5 6 7 8 9\n\
+row 1 0 5 6 7 2 3 4 9 8\nrow 2 5 7 8 5 4 9 2 3 6\nrow 3 6 8 7 6 9 4 3 2 5\n\
+row 4 7 5 6 7 2 3 4 9 8\nrow 5 2 4 9 2 7 8 5 6 3\nrow 6 3 9 4 3 8 7 6 5 2\n\
+row 7 4 2 3 4 5 6 7 8 9\nrow 8 9 3 2 9 6 5 8 7 4\nrow 9 8 6 5 8 3 2 9 4 7\n\
+apart 0 1 1 4 1 1 0 1 1 0 0 0 0 0 4 0 0 2 1 2 2 0 2 2 1 3 3 0 3 3 1 1 0 1 1 5 0 5 5 0 6 6 0 0 8\n\
+end\n";
 
 const LIMITS: Limits = Limits {
     rounds: 64,
