@@ -1,7 +1,6 @@
 //! The elements that heaps which don't count make.
-use crate::generators::Generators;
-use crate::numbers::{NONE, at, heap_weight, put};
 use quotient_search::{Halt, HeapQuotient, Work};
+use running_pairs::{Generators, NONE, at, heap_weight, put};
 use std::alloc::Allocator;
 
 /// Elements of a wrong quotient, in the order of the weights of their lightest words, of letters that

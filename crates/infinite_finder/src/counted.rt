@@ -1,7 +1,6 @@
 //! Which heaps count.
-use crate::generators::{Cycle, Generators, cycle_of};
-use crate::numbers::at;
 use quotient_search::{Halt, HeapQuotient, Work};
+use running_pairs::{Cycle, Generators, at, cycle_of};
 use std::alloc::Allocator;
 
 /// A lead from which on a heap is taken for one that counts.

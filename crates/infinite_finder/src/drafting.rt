@@ -1,9 +1,9 @@
 //! The text of a claim.
-use crate::numbers::at;
 use crate::outcomes::LOST;
 use crate::rays::{Ray, Sketch};
 use octal_code::Code;
 use quotient_search::{Halt, Work};
+use running_pairs::{NONE, at};
 use std::alloc::Allocator;
 
 /// The digits of a region.
@@ -45,7 +45,11 @@ impl<A: Allocator + Copy> Draft<A> {
         self.add_number("\norder ", sketch.elements.order())?;
         self.add("\nphi")?;
         for element in sketch.elements.heap_elements.iter() {
-            self.add_number(" ", *element)?;
+            if *element == NONE {
+                self.add(" -")?;
+            } else {
+                self.add_number(" ", *element)?;
+            }
         }
         self.add("\n")
     }
@@ -55,12 +59,14 @@ impl<A: Allocator + Copy> Draft<A> {
         let fold = sketch.shape.fold;
         self.add_number("track ", fold.down)?;
         self.add_number(" ", fold.up)?;
-        self.add_number(" 1 ", fold.down_top)?;
+        self.add_number(" ", fold.step)?;
+        self.add_number(" ", fold.down_top)?;
         self.add_number(" ", fold.up_top)?;
         self.add_number(" ", fold.modulus)?;
         for heap in 1..sketch.elements.heap_elements.len().saturating_add(1) {
             let counts = sketch.heap_counts(heap);
-            if counts.down != 0 || counts.up != 0 {
+            let is_counted = counts.down != 0 || counts.up != 0;
+            if is_counted && sketch.generators.is_kept(heap) {
                 self.add_number(" ", heap)?;
                 self.add_number(":", counts.down)?;
                 self.add_number(":", counts.up)?;
@@ -88,7 +94,7 @@ impl<A: Allocator + Copy> Draft<A> {
             for element in 0..sketch.elements.order() {
                 let product = sketch
                     .elements
-                    .times(sketch.states, sketch.view.generators, element, heap);
+                    .times(sketch.states, sketch.generators, element, heap);
                 self.add_number(" ", product)?;
             }
             self.add("\n")?;

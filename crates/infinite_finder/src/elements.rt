@@ -1,8 +1,7 @@
 //! The elements of a claim, numbered by least keys.
-use crate::generators::Generators;
-use crate::numbers::{NONE, at, put};
 use crate::states::States;
 use quotient_search::{Halt, Work};
+use running_pairs::{Generators, NONE, at, put};
 use std::alloc::Allocator;
 
 /// The most elements.
@@ -86,7 +85,7 @@ impl<A: Allocator> Elements<A> {
         let from = at(&self.states, element);
         for heap in 1..last.saturating_add(1) {
             let state = self.behind(states, generators, from, heap);
-            if at(&self.numbers, state) == NONE {
+            if generators.is_kept(heap) && at(&self.numbers, state) == NONE {
                 self.add(state)?;
                 self.parents.push(element)?;
                 self.heaps.push(heap)?;
@@ -102,7 +101,11 @@ impl<A: Allocator> Elements<A> {
         last: usize,
     ) -> Result<(), Halt> {
         for heap in 1..last.saturating_add(1) {
-            let element = self.times(states, generators, 0, heap);
+            let element = if generators.is_kept(heap) {
+                self.times(states, generators, 0, heap)
+            } else {
+                NONE
+            };
             self.heap_elements.push(element)?;
         }
         Ok(())

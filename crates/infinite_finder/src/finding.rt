@@ -7,15 +7,16 @@ ghost use Rattle.infinite_answers.specs.Kept.{IsKeptOf};
 
 use crate::base::Base;
 use crate::counted::{Counting, Cycles, counted, heap_leads};
-use crate::generators::Generators;
 use crate::layout::Layout;
 use crate::outcomes::View;
-use crate::trying::Tries;
+use crate::running::text_by_running;
+use crate::trying::{Tries, is_accepted};
 use allocation::{Memory, SmallAllocator};
 use infinite_answers::{Infinite, InfiniteRefusal};
 use infinite_checker::check_infinite;
 use octal_code::Code;
 use quotient_search::{Guesses, Halt, HeapQuotient, Work};
+use running_pairs::Generators;
 use std::alloc::{Allocator, Global};
 
 /// The most wrong quotients of one part that are looked at.
@@ -25,6 +26,8 @@ const MOST_GUESSES: usize = 12;
 const SEARCH_WORK: u64 = 60_000_000_000;
 
 const TRY_WORK: u64 = 10_000_000_000;
+
+const RUNNING_WORK: u64 = 60_000_000_000;
 
 /// The most elements of a base.
 const MOST_BASE: usize = 3000;
@@ -100,6 +103,21 @@ fn text_counting<A: SmallAllocator + Copy>(
     tries.try_all(&mut work)
 }
 
+/// Looks for a certificate by two heaps that run against each other.
+fn accepted_by_running<A: SmallAllocator + Copy>(
+    alloc: A,
+    code: &Code,
+    quotient: &HeapQuotient<A>,
+    limit: u32,
+) -> Result<Option<Vec<u8, A>>, Halt> {
+    let mut work = Work::new(RUNNING_WORK);
+    match text_by_running(alloc, code, quotient, limit, &mut work) {
+        Err(Halt::Memory) => Err(Halt::Memory),
+        Ok(text) => Ok(text),
+        _ => Ok(None),
+    }
+}
+
 impl<A: SmallAllocator + Copy> Part<A> {
     /// Looks for a certificate by a wrong quotient.
     fn text_by(
@@ -153,7 +171,10 @@ impl<A: SmallAllocator + Copy> Part<A> {
             self.guesses = 0;
             self.leads.clear();
         }
-        let text = self.text_by(alloc, code, quotient, limit)?;
+        let mut text = self.text_by(alloc, code, quotient, limit)?;
+        if text.is_none() && self.guesses == 0 {
+            text = accepted_by_running(alloc, code, quotient, limit)?;
+        }
         if self.guesses == 0 {
             let mut work = Work::new(TRY_WORK);
             self.leads = heap_leads(alloc, quotient, &mut work)?;

@@ -1,8 +1,8 @@
 //! Whether a shape fits the outcomes.
-use crate::numbers::{at, byte, put_byte};
 use crate::outcomes::{Outcomes, UNKNOWN, View};
 use crate::shapes::Shape;
 use quotient_search::{Halt, Work};
+use running_pairs::{at, byte, put_byte};
 use std::alloc::Allocator;
 
 /// The most outcomes of a shape.

@@ -1,8 +1,9 @@
 //! Where the outcomes beside counts lie.
 use crate::base::Base;
-use crate::generators::Generators;
-use crate::numbers::{add_up, at, greatest, heap_weight, places_by_size, put, rest, share};
 use quotient_search::{Halt, Work};
+use running_pairs::{
+    Generators, add_up, at, greatest, heap_weight, places_by_size, put, rest, share,
+};
 use std::alloc::Allocator;
 
 /// The most outcomes that are kept.

@@ -1,8 +1,8 @@
 //! States that may be one, as far as outcomes are known.
-use crate::numbers::{at, put};
 use crate::outcomes::UNKNOWN;
 use crate::states::{States, ranks};
 use quotient_search::{Halt, Work};
+use running_pairs::{at, put};
 use std::alloc::Allocator;
 
 /// What a try has changed.

@@ -1,12 +1,10 @@
 //! Outcomes of elements beside counts.
 use crate::base::Base;
-use crate::generators::Generators;
 use crate::layout::Layout;
-use crate::lists::Lists;
-use crate::numbers::{at, byte, put_byte};
 use heap_options::options;
 use octal_code::Code;
 use quotient_search::{Halt, HeapQuotient, Work};
+use running_pairs::{Generators, Lists, at, byte, put_byte};
 use std::alloc::Allocator;
 
 /// An outcome that isn't known.

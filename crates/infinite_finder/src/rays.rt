@@ -1,10 +1,10 @@
 //! Three positions that may show that infinitely many are told apart.
 use crate::elements::Elements;
-use crate::numbers::{NONE, at, rest, share};
-use crate::outcomes::{LOST, View};
+use crate::outcomes::LOST;
 use crate::shapes::Shape;
 use crate::states::States;
 use quotient_search::{Halt, Work};
+use running_pairs::{Generators, NONE, at, rest, share};
 use std::alloc::Allocator;
 
 /// The most copies of each of two heaps that are put into a base, and the most rounds of both.
@@ -16,7 +16,10 @@ const FAR: usize = 200;
 /// A claim on the way to its text.
 #[derive(Drop)]
 pub struct Sketch<'a, A: Allocator> {
-    pub view: &'a View<'a, A>,
+    pub alloc: A,
+    pub generators: &'a Generators<A>,
+    /// The letters that count.
+    pub counted: &'a [usize],
     pub shape: &'a Shape<A>,
     pub states: &'a States<A>,
     pub elements: &'a Elements<A>,
@@ -67,11 +70,21 @@ fn common_divisor(one: usize, other: usize) -> usize {
 }
 
 impl<A: Allocator + Copy> Sketch<'_, A> {
+    /// The place of a letter among those that count.
+    fn place_of(&self, letter: usize) -> Option<usize> {
+        for (i, counted) in self.counted.iter().enumerate() {
+            if *counted == letter {
+                return Some(i);
+            }
+        }
+        None
+    }
+
     /// What a heap adds to the two counts.
     pub fn heap_counts(&self, heap: usize) -> Counts {
         let mut counts = Counts { down: 0, up: 0 };
-        for letter in self.view.generators.word(heap).iter() {
-            if let Some(i) = self.view.place_of(*letter) {
+        for letter in self.generators.word(heap).iter() {
+            if let Some(i) = self.place_of(*letter) {
                 counts.down = counts.down.saturating_add(at(&self.shape.downs, i));
                 counts.up = counts.up.saturating_add(at(&self.shape.ups, i));
             }
@@ -117,13 +130,15 @@ impl<A: Allocator + Copy> Sketch<'_, A> {
         let down = at(&self.shape.downs, i);
         let up = at(&self.shape.ups, j);
         let common = common_divisor(down, up);
-        if down == 0 || up == 0 || common == 0 {
+        let downs = share(up, common).saturating_mul(round);
+        let is_whole = rest(downs.saturating_mul(down), self.shape.fold.step) == 0;
+        if down == 0 || up == 0 || common == 0 || !is_whole {
             return None;
         }
         Some(Runners {
-            falling: at(self.view.counted, i),
-            rising: at(self.view.counted, j),
-            downs: share(up, common).saturating_mul(round),
+            falling: at(self.counted, i),
+            rising: at(self.counted, j),
+            downs,
             ups: share(down, common).saturating_mul(round),
         })
     }
@@ -185,8 +200,8 @@ impl<A: Allocator + Copy> Sketch<'_, A> {
         }
         Some(Ray {
             element,
-            falling: at(&self.view.generators.heaps, falling),
-            rising: at(&self.view.generators.heaps, rising),
+            falling: at(&self.generators.heaps, falling),
+            rising: at(&self.generators.heaps, rising),
             falling_copies: copies.down,
             rising_copies: copies.up,
             downs,
@@ -260,7 +275,7 @@ impl<A: Allocator + Copy> Sketch<'_, A> {
 
     /// The heaps of an element's least word, the last one first.
     pub fn word(&self, element: usize) -> Result<Vec<usize, A>, Halt> {
-        let mut heaps: Vec<usize, A> = Vec::new(self.view.alloc);
+        let mut heaps: Vec<usize, A> = Vec::new(self.alloc);
         let mut left = element;
         for _ in 0..element.saturating_add(1) {
             if left == 0 || left == NONE {

@@ -1,7 +1,7 @@
 //! States that nothing tells apart.
-use crate::numbers::{NONE, at, put};
 use crate::states::States;
 use quotient_search::{Halt, Partition, Work};
+use running_pairs::{NONE, at, put};
 use std::alloc::Allocator;
 
 /// How many outcomes have room in a key.

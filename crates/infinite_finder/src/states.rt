@@ -1,9 +1,9 @@
 //! The states of a shape: elements with combinations of counts.
 use crate::fitting::spot_of;
-use crate::numbers::{at, byte, heap_weight, places_by_size, put, put_byte, rest, share};
 use crate::outcomes::{Outcomes, UNKNOWN, View};
 use crate::shapes::Shape;
 use quotient_search::{Halt, Work};
+use running_pairs::{at, byte, heap_weight, places_by_size, put, put_byte, rest, share};
 use std::alloc::Allocator;
 
 /// States, where each letter leads from each of them, and their outcomes at each place.

@@ -4,17 +4,17 @@ use crate::drafting::drafted;
 use crate::elements::elements_of;
 use crate::fitting::fits;
 use crate::merging::merged;
-use crate::numbers::{at, places_by_size, rest, share};
 use crate::outcomes::{Outcomes, View};
 use crate::rays::Sketch;
 use crate::refining::refined;
-use crate::shapes::{Fold, Shape};
+use crate::shapes::Shape;
 use crate::states::states_of;
 use allocation::SmallAllocator;
 use infinite_answers::InfiniteRefusal;
 use infinite_checker::check_infinite;
 use octal_code::Code;
 use quotient_search::{Halt, Work};
+use running_pairs::{Fold, at, places_by_size, rest, share};
 use std::alloc::Allocator;
 
 /// The most states of a shape.
@@ -43,7 +43,11 @@ pub struct Tries<'a, A: Allocator> {
 }
 
 /// Whether the check accepts the bytes.
-fn is_accepted<A: SmallAllocator + Copy>(alloc: A, text: &[u8], limit: u32) -> Result<bool, Halt> {
+pub fn is_accepted<A: SmallAllocator + Copy>(
+    alloc: A,
+    text: &[u8],
+    limit: u32,
+) -> Result<bool, Halt> {
     match check_infinite(alloc, text, limit) {
         Ok(shown) => {
             drop(shown);
@@ -148,7 +152,9 @@ impl<A: SmallAllocator + Copy> Tries<'_, A> {
         let last = self.view.quotient.heaps().len();
         let elements = elements_of(alloc, &found, self.view.generators, roots, last, work)?;
         let sketch = Sketch {
-            view: self.view,
+            alloc,
+            generators: self.view.generators,
+            counted: self.view.counted,
             shape,
             states: &found,
             elements: &elements,
@@ -172,6 +178,7 @@ impl<A: SmallAllocator + Copy> Tries<'_, A> {
         let fold = Fold {
             down: corner,
             up: corner,
+            step: 1,
             down_top: corner.saturating_add(4),
             up_top: corner.saturating_add(5),
             modulus: 2,
@@ -230,6 +237,7 @@ impl<A: SmallAllocator + Copy> Tries<'_, A> {
         let fold = Fold {
             down: 0,
             up: 0,
+            step: 1,
             down_top: top,
             up_top: top,
             modulus,

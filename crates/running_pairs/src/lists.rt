@@ -51,6 +51,24 @@ impl<A: Allocator> Lists<A> {
         self.ends.push(self.items.len()).map_err(Halt::from)
     }
 
+    /// The items of the next list.
+    fn open(&self) -> &[usize] {
+        let from = self.start(self.ends.len());
+        if from <= self.items.len() {
+            &self.items[from..]
+        } else {
+            &[]
+        }
+    }
+
+    /// Adds an item to the next list, unless it has it.
+    pub fn add_new(&mut self, item: usize) -> Result<(), Halt> {
+        if self.open().contains(&item) {
+            return Ok(());
+        }
+        self.add(item)
+    }
+
     /// How many items all lists have.
     pub fn size(&self) -> usize {
         self.items.len()

@@ -11,6 +11,10 @@ pub struct Generators<A: Allocator> {
     pub heaps: Vec<usize, A>,
     pub elements: Vec<usize, A>,
     words: Lists<A>,
+    /// For each heap the generator that it has become later, or `NONE`.
+    own: Vec<usize, A>,
+    /// For each heap whether it is in the part that is looked at.
+    kept: Vec<bool, A>,
 }
 
 impl<A: Allocator + Copy> Generators<A> {
@@ -24,6 +28,8 @@ impl<A: Allocator + Copy> Generators<A> {
             heaps: Vec::new(alloc),
             elements: Vec::new(alloc),
             words: Lists::new(alloc),
+            own: Vec::new(alloc),
+            kept: Vec::new(alloc),
         };
         for n in 1..quotient.heaps().len().saturating_add(1) {
             let count = found.heaps.len();
@@ -42,12 +48,48 @@ impl<A: Allocator> Generators<A> {
 
     /// The word of the heap n.
     pub fn word(&self, n: usize) -> &[usize] {
-        self.words.list(n.wrapping_sub(1))
+        let place = n.wrapping_sub(1);
+        if place < self.own.len() && self.own[place] != NONE {
+            &self.own[place..place + 1]
+        } else {
+            self.words.list(place)
+        }
+    }
+
+    /// How many heaps there are.
+    pub fn last(&self) -> usize {
+        self.own.len()
+    }
+
+    /// Whether the heap n is in the part that is looked at.
+    pub fn is_kept(&self, n: usize) -> bool {
+        match self.kept.get(n.wrapping_sub(1)) {
+            Some(is_kept) => *is_kept,
+            None => false,
+        }
+    }
+
+    /// Says whether the heap n is in the part that is looked at.
+    pub fn keep(&mut self, n: usize, is_kept: bool) {
+        let place = n.wrapping_sub(1);
+        if place < self.kept.len() {
+            self.kept[place] = is_kept;
+        }
+    }
+
+    /// Makes the heap n a generator.
+    pub fn promote(&mut self, n: usize) -> Result<(), Halt> {
+        put(&mut self.own, n.wrapping_sub(1), self.heaps.len());
+        self.heaps.push(n)?;
+        self.elements.push(NONE)?;
+        Ok(())
     }
 
     /// Adds the heap n, the next one.
     fn add(&mut self, quotient: &HeapQuotient<A>, n: usize) -> Result<(), Halt> {
         let element = quotient.heap(n);
+        self.own.push(NONE)?;
+        self.kept.push(true)?;
         if element != 0
             && !self.add_as_one(element)?
             && !self.add_as_two(quotient, element)?
@@ -119,7 +161,7 @@ impl<A: Allocator> Generators<A> {
 }
 
 /// From where on the powers of an element come again, and after how many.
-#[derive(Clone, Copy, Debug, PartialEq, Eq)]
+#[derive(Clone, Copy)]
 pub struct Cycle {
     pub lead: usize,
     pub period: usize,
