@@ -299,6 +299,24 @@ def bytes_that_are_no_text(program: str, folder: pathlib.Path, runs: Runs) -> It
         yield from differs(runs.run([program, "desk", "steps"], folder=str(folder)), 2, b"", told)
 
 
+# Words with bytes that a line of rows can't hold, and what is wrong with them.
+EXPLAINED = [
+    ("--code", "0.77\r", "byte 5: a carriage return, which no code has"),
+    ("--code", "0.77\n", "byte 5: a line end, which no code has"),
+    ("--code", "0.7\t7", "byte 4: a tab, which no code has"),
+    ("--code", "0.\u00b7", "byte 3: the byte 194, which no code has"),
+    ("--position", "3 5\r", "size 2: a carriage return, which no size has"),
+    ("--position", "3\t5", "size 1: a tab, which no size has"),
+    ("--position", "\u00bd", "size 1: the byte 194, which no size has"),
+    ("--position", "\x7f", "size 1: the byte 127, which no size has"),
+]
+
+
+def explained_words(program: str, _: pathlib.Path, runs: Runs) -> Iterator[str]:
+    for option, word, line in EXPLAINED:
+        yield from differs(runs.run([program, "explain", option, word]), 1, f"{line}\n".encode())
+
+
 READING = ["check", "check -", "show -", "describe", "play - 1", "play 0.3.mqc -", "solve -", "infinite -"]
 WRITING = ["check 0.3.mqc", "check --help", "show 0.3.mqc", "present a=1"]
 OF_FILES = ["check 0.33.mqc", "show 0.33.mqc", "play 0.33.mqc 1", "catalogue 0.33.mqc"]
@@ -349,4 +367,5 @@ def made_rows() -> Iterator[Made]:
     yield Made("the third format", len(THIRD_FORMAT), third_format)
     yield Made("long lines", 7, long_lines)
     yield Made("bytes that are no text", 3, bytes_that_are_no_text)
+    yield Made("explained words", len(EXPLAINED), explained_words)
     yield Made("failing devices", len(READING) + len(WRITING) + len(OF_FILES) + 1, failing_devices)

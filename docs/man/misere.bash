@@ -15,7 +15,7 @@ _misere() {
         play) options="--limit --help" ;;
         compare) options="--limit --help" ;;
         certify) options="--limit --help" ;;
-        explain) options="--help" ;;
+        explain) options="--code --position --help" ;;
         present) options="--help" ;;
         catalogue) options="--new --add --get --heaps --salvage --migrate --table --json --limit --help" ;;
         desk) options="--help" ;;
@@ -23,7 +23,7 @@ _misere() {
     esac
     COMPREPLY=()
     case $before in
-        --furthest | --heaps | --limit | --order | --partial | --rounds) return ;;
+        --code | --furthest | --heaps | --limit | --order | --partial | --position | --rounds) return ;;
         --get)
             # the codes that the file names, which nobody has checked
             options=$(grep -o '"code":"[^"]*"' "${COMP_WORDS[i+1]}" 2> /dev/null | cut -d '"' -f 4)

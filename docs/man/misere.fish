@@ -12,7 +12,7 @@ complete -c misere -n __fish_use_subcommand -a describe -d 'Check a certificate,
 complete -c misere -n __fish_use_subcommand -a play -d 'Check a certificate, and print a winning move in a position'
 complete -c misere -n __fish_use_subcommand -a compare -d 'Check two certificates, and tell whether their quotients are isomorphic'
 complete -c misere -n __fish_use_subcommand -a certify -d 'Make a certificate of a quotient that is given by its table, and print it once it is checked'
-complete -c misere -n __fish_use_subcommand -a explain -d 'Say why a text is no certificate\'s, and in which line'
+complete -c misere -n __fish_use_subcommand -a explain -d 'Say why a text is no certificate\'s, no code or no position, and where'
 complete -c misere -n __fish_use_subcommand -a present -d 'Print the table of the commutative monoid that relations present'
 complete -c misere -n __fish_use_subcommand -a catalogue -d 'List the certificates in a catalogue, print one, or add to them'
 complete -c misere -n __fish_use_subcommand -a desk -d 'Take the steps of a script, many checks at one desk, and print a line for each'
@@ -61,6 +61,8 @@ complete -c misere -n '__fish_seen_subcommand_from certify; and not __fish_seen_
 complete -c misere -n '__fish_seen_subcommand_from certify; and not __fish_seen_subcommand_from help' -l limit -x -d 'Keep at most N members of a closure: 1 to 1000000, by default 100000'
 complete -c misere -n '__fish_seen_subcommand_from certify; and not __fish_seen_subcommand_from help' -l help -d 'Print help'
 complete -c misere -n '__fish_seen_subcommand_from explain; and not __fish_seen_subcommand_from help' -F
+complete -c misere -n '__fish_seen_subcommand_from explain; and not __fish_seen_subcommand_from help' -l code -x -d 'Say why this word is no code; without FILE and --position'
+complete -c misere -n '__fish_seen_subcommand_from explain; and not __fish_seen_subcommand_from help' -l position -x -d 'Say why this word is no position; without FILE and --code'
 complete -c misere -n '__fish_seen_subcommand_from explain; and not __fish_seen_subcommand_from help' -l help -d 'Print help'
 complete -c misere -n '__fish_seen_subcommand_from present; and not __fish_seen_subcommand_from help' -l help -d 'Print help'
 complete -c misere -n '__fish_seen_subcommand_from catalogue; and not __fish_seen_subcommand_from help' -F

@@ -3,3 +3,4 @@ mod CodeLemmas
 mod NumberLemmas
 mod Reading
 mod SearchLemmas
+mod AskedFor

@@ -8,8 +8,7 @@ use Rattle.clap.specs.declared.error.kind.ErrorKind.{ErrorKind}
 use Rattle.clap.specs.declared.parser.matches.ArgMatches.{ArgMatches}
 use Rattle.clap.specs.declared.parser.matches.ArgMatches.TheViews.{out-ArgMatches, out-SubCommand}
 use Rattle.command_line.specs.Program.{program}
-use Rattle.command_line.specs.Requests.{plan_of, request_in, unless_refused}
-use Rattle.requests.specs.Requests.{Request}
+use Rattle.command_line.specs.Requests.{plan_of, request_in, unless_refused, word_in, word_of}
 
 -- words that are taken ask for what their command asks for
 pub plan_of-taken : (words : List Text) → fault_of program words ≡ []
@@ -18,8 +17,15 @@ unfolding plan_of
 plan_of-taken words e =
     ap (λ (kinds : Kinds). unless_refused kinds (request_in (subcommand_of program words))) e
 
-nothing_refused : (kind : ErrorKind) (kinds : Kinds) (request : Option Request) → IsAmong kind kinds
-    → unless_refused kinds request ≡ None
+-- and to explain what their command explains
+pub word_of-taken : (words : List Text) → fault_of program words ≡ []
+    → word_of words ≡ word_in (subcommand_of program words)
+unfolding word_of
+word_of-taken words e =
+    ap (λ (kinds : Kinds). unless_refused kinds (word_in (subcommand_of program words))) e
+
+nothing_refused : {X : Type 0} (kind : ErrorKind) (kinds : Kinds) (request : Option X)
+    → IsAmong kind kinds → unless_refused kinds request ≡ None
 nothing_refused kind [] request h = absurd h
 nothing_refused kind (k ∷ ks) request h = refl
 
@@ -29,6 +35,12 @@ pub plan_of-refused : (words : List Text) (kind : ErrorKind) → IsAmong kind (f
 unfolding plan_of
 plan_of-refused words kind h =
     nothing_refused kind (fault_of program words) (request_in (subcommand_of program words)) h
+
+pub word_of-refused : (words : List Text) (kind : ErrorKind) → IsAmong kind (fault_of program words)
+    → word_of words ≡ None
+unfolding word_of
+word_of-refused words kind h =
+    nothing_refused kind (fault_of program words) (word_in (subcommand_of program words)) h
 
 -- what is known of a name and of its rows, together
 together : {B : Type 0} (o : Option B) (name : B → Text) (rows : B → List Row) (n : Text)

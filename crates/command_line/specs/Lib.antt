@@ -4,3 +4,4 @@ pub mod Program
 pub mod Refusals
 pub mod Requests
 pub mod Status
+pub mod Wanted

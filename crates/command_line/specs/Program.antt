@@ -74,9 +74,10 @@ compare = command (codes "compare")
 abbrev pub certify : App
 certify = command (codes "certify") (needed (codes "file") ∷ option (codes "limit") ∷ [])
 
--- explain FILE
+-- explain [FILE] [--code WORD] [--position WORD]
 abbrev pub explain : App
-explain = command (codes "explain") (needed (codes "file") ∷ [])
+explain = command (codes "explain")
+    (optional (codes "file") ∷ option (codes "code") ∷ option (codes "position") ∷ [])
 
 -- present TEXT
 abbrev pub present : App

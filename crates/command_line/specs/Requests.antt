@@ -12,6 +12,8 @@ use Rattle.command_line.specs.Program
 use Rattle.command_line.specs.Program.{program}
 use Rattle.command_line.specs.declared.faults.Exclusion.{Exclusion}
 use Rattle.command_line.specs.declared.faults.Exclusion.TheVariants as exclusion
+use Rattle.command_line.specs.declared.wanted.ExplainedWord.{ExplainedWord}
+use Rattle.command_line.specs.declared.wanted.ExplainedWord.TheVariants as wanted
 use Rattle.command_line.specs.declared.numbers.Quantity.{Quantity}
 use Rattle.command_line.specs.declared.numbers.Quantity.TheVariants.{Limit, Rounds, Heaps, Order, Part, DeepOrder, Last, PartOrder, Furthest, SeriesLast}
 use Rattle.requests.specs.Requests.{CatalogueRequest, Request}
@@ -28,6 +30,15 @@ use Rattle.requests.specs.declared.plans.Output.{Output}
 use Rattle.requests.specs.declared.plans.Output.TheVariants.{Description, Latex, Json, Relations, Singular, Gap}
 
 -- ---- what each command asks for with its arguments
+
+-- A word that is explained by itself. No file is read for it.
+pub data WordRequest : Type 0 where
+  ExplainCode : Text → WordRequest
+  ExplainPosition : Text → WordRequest
+
+abbrev pub word_request_of : ExplainedWord → WordRequest
+word_request_of (wanted.Code code) = ExplainCode code.now
+word_request_of (wanted.Position position) = ExplainPosition position.now
 
 -- the arguments of a command
 abbrev pub arguments_of : ArgMatches → List Row
@@ -259,9 +270,24 @@ certify_with _ _ = None
 abbrev pub certify_request : List Row → Option Request
 certify_request rows = certify_with (first_of (codes "file") rows) (number_of Limit rows)
 
+-- a code or a position is given, so that no file is explained
+abbrev pub explain_conflicts : List Row → Bool
+explain_conflicts rows = is_given (codes "code") rows || is_given (codes "position") rows
+
 abbrev pub explain_request : List Row → Option Request
 explain_request rows =
-    option_map (λ file. Explain (named_by (Some file))) (first_of (codes "file") rows)
+    if explain_conflicts rows then None
+    else Some (Explain (named_by (first_of (codes "file") rows)))
+
+-- the code or the position that is explained, if one of them is given, and no file
+abbrev pub word_with : (file code position : Option Text) → Option WordRequest
+word_with None (Some code) None = Some (ExplainCode code)
+word_with None None (Some position) = Some (ExplainPosition position)
+word_with _ _ _ = None
+
+abbrev pub word_given : List Row → Option WordRequest
+word_given rows = word_with (first_of (codes "file") rows) (first_of (codes "code") rows)
+    (first_of (codes "position") rows)
 
 abbrev pub present_request : List Row → Option Request
 present_request rows = option_map Present (first_of (codes "text") rows)
@@ -481,7 +507,13 @@ abbrev pub certify : Asking
 certify = record { app = Program.certify; request = certify_request; numbers = λ rows. Limit ∷ []; conflicts = never; exclusion = untold }
 
 abbrev pub explain : Asking
-explain = record { app = Program.explain; request = explain_request; numbers = λ rows. []; conflicts = never; exclusion = untold }
+explain = record {
+  app = Program.explain;
+  request = explain_request;
+  numbers = λ rows. [];
+  conflicts = explain_conflicts;
+  exclusion = λ rows. Some exclusion.Explain;
+}
 
 abbrev pub present : Asking
 present = record { app = Program.present; request = present_request; numbers = λ rows. []; conflicts = never; exclusion = untold }
@@ -520,8 +552,15 @@ abbrev pub request_in : Option (Text × List Row) → Option Request
 request_in found =
     option_and_then (λ f. option_and_then (λ c. c.request f.1) (command_named f.0)) found
 
+-- the word that a command explains with its arguments
+abbrev pub word_of_command : Text × List Row → Option WordRequest
+word_of_command found = if bytes_eq found.0 (codes "explain") then word_given found.1 else None
+
+abbrev pub word_in : Option (Text × List Row) → Option WordRequest
+word_in found = option_and_then word_of_command found
+
 -- what is asked for where no kind of error is met
-abbrev pub unless_refused : Kinds → Option Request → Option Request
+abbrev pub unless_refused : {X : Type 0} → Kinds → Option X → Option X
 unless_refused [] request = request
 unless_refused (kind ∷ kinds) request = None
 
@@ -529,3 +568,7 @@ unless_refused (kind ∷ kinds) request = None
 -- doesn't take them
 unfoldable pub plan_of : List Text → Option Request
 plan_of words = unless_refused (fault_of program words) (request_in (subcommand_of program words))
+
+-- the word that the words ask to explain, the program's name first
+unfoldable pub word_of : List Text → Option WordRequest
+word_of words = unless_refused (fault_of program words) (word_in (subcommand_of program words))

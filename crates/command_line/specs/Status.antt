@@ -36,6 +36,7 @@ exclusion_text exclusion.Catalogue =
 exclusion_text exclusion.Compare =
     codes "misere: standard input has one of the two certificates\n"
 exclusion_text exclusion.Description = codes "misere: --latex goes without --relations\n"
+exclusion_text exclusion.Explain = codes "misere: one of FILE, --code and --position\n"
 exclusion_text exclusion.Outputs =
     codes "misere: one of --latex, --relations, --json, --singular and --gap\n"
 exclusion_text exclusion.Infinite = codes "misere: --show goes without POSITION\n"

@@ -7,11 +7,14 @@ ghost use Rattle.command_line.specs.Refusals.{Answers, IsMistake, IsMistakeIn, c
 ghost use Rattle.command_line.specs.Requests.{arguments_of, asks_for_more, catalogue, catalogue_conflicts, certify, check, compare, describe, describe_conflicts, desk, explain, infinite, is_deep, is_set, layout_conflicts, layout_in, named_by, output_in, play};
 ghost use Rattle.command_line.specs.Requests.{aim_in, bounds_in, order_by, order_in, present, request_in, search, search_conflicts, series, show, solve, solve_with, task_in};
 ghost use Rattle.command_line.specs.Requests.{asks_for_finite, has_several, infinite_search, infinite_search_conflicts, is_input};
+ghost use Rattle.command_line.specs.Requests.{explain_conflicts, word_given, word_in, word_request_of};
+ghost use Rattle.command_line.specs.Wanted.{IsAskedIn};
 ghost use Rattle.requests.specs.Requests.{catalogue_request_of, request_of};
 ghost use Rattle.requests.specs.Requests.Request.{SolveMany};
 
 use crate::faults::{Exclusion, UsageFault};
 use crate::numbers::{Quantity, number_given};
+use crate::wanted::{Asked, ExplainedWord};
 use clap::ArgMatches;
 use requests::{Aim, CatalogueTask, Layout, Output, Plan, SeriesBounds, SolveBounds};
 use std::alloc::Global;
@@ -375,11 +378,47 @@ fn certify_plan<'a>(given: &ArgMatches<'a>) -> Result<Plan<'a>, UsageFault>
     Ok(Plan::Certify { file, limit })
 }
 
+/// Whether a code or a position is given, so that no file is explained.
+fn explain_conflicts(given: &ArgMatches<'_>) -> bool
+    ensures { result ≡ explain_conflicts (arguments_of given.now) }
+{
+    value(given, "code").is_some() || value(given, "position").is_some()
+}
+
 fn explain_plan<'a>(given: &ArgMatches<'a>) -> Result<Plan<'a>, UsageFault>
     ensures { Answers explain (arguments_of given.now) result }
 {
-    let file = named_by(Some(needed(given, "file")?));
+    if explain_conflicts(given) {
+        return Err(UsageFault::Exclusive(Exclusion::Explain));
+    }
+    let file = named_by(value(given, "file"));
     Ok(Plan::Explain { file })
+}
+
+/// The code or the position that is explained, if one of them is given, and no file.
+fn word_given<'a>(given: &ArgMatches<'a>) -> Option<ExplainedWord<'a>>
+    ensures { option_map word_request_of result ≡ word_given (arguments_of given.now) }
+{
+    match (
+        value(given, "file"),
+        value(given, "code"),
+        value(given, "position"),
+    ) {
+        (None, Some(code), None) => Some(ExplainedWord::Code(code)),
+        (None, None, Some(position)) => Some(ExplainedWord::Position(position)),
+        _ => None,
+    }
+}
+
+/// The word that the command of this name explains with its arguments.
+fn command_word<'a>(name: &str, given: &ArgMatches<'a>) -> Option<ExplainedWord<'a>>
+    ensures { option_map word_request_of result
+        ≡ word_in (Some (name.now, arguments_of given.now)) }
+{
+    match name {
+        "explain" => word_given(given),
+        _ => None,
+    }
 }
 
 fn present_plan<'a>(given: &ArgMatches<'a>) -> Result<Plan<'a>, UsageFault>
@@ -516,8 +555,8 @@ fn infinite_plan<'a>(given: &ArgMatches<'a>) -> Result<Plan<'a>, UsageFault>
     }
 }
 
-/// What the command of this name asks for with its arguments.
-pub(crate) fn command_plan<'a>(
+/// The plan that the command of this name asks for with its arguments.
+fn command_plan<'a>(
     alloc: Global,
     name: &str,
     given: &ArgMatches<'a>,
@@ -547,5 +586,27 @@ pub(crate) fn command_plan<'a>(
         "desk" => desk_plan(given),
         "infinite" => infinite_plan(given),
         _ => Err(UsageFault::Incomplete),
+    }
+}
+
+/// What the command of this name asks for with its arguments.
+pub(crate) fn command_asked<'a>(
+    alloc: Global,
+    name: &str,
+    given: &ArgMatches<'a>,
+) -> Result<Asked<'a>, UsageFault>
+    ensures asked { IfOk result (IsAskedIn (Some (name.now, arguments_of given.now))) }
+    ensures nothing { IfErr result (λ fault. fault ≢ UsageFault.Memory
+        → (request_in (Some (name.now, arguments_of given.now)) ≡ None)
+        × (word_in (Some (name.now, arguments_of given.now)) ≡ None)) }
+    ensures fault { IfErr result (λ fault. fault ≢ UsageFault.Memory
+        → IsMistakeIn (Some (name.now, arguments_of given.now)) fault) }
+{
+    if let Some(word) = command_word(name, given) {
+        return Ok(Asked::Word(word));
+    }
+    match command_plan(alloc, name, given) {
+        Ok(plan) => Ok(Asked::Plan(plan)),
+        Err(fault) => Err(fault),
     }
 }

@@ -229,9 +229,14 @@ fn certify_command<'a>(alloc: Global) -> Result<Command<'a>, AllocError>
 fn explain_command<'a>(alloc: Global) -> Result<Command<'a>, AllocError>
     ensures { IfOk result (λ c. app_of c ≡ explain) }
 {
-    let about = "Say why a text is no certificate's, and in which line";
-    let file = "The file of the text; as - standard input";
-    command(alloc, "explain", about).arg(needed(alloc, "file", "FILE", file))
+    let about = "Say why a text is no certificate's, no code or no position, and where";
+    let file = "The file of a certificate's text; without it, or as -, standard input";
+    let code = "Say why this word is no code; without FILE and --position";
+    let position = "Say why this word is no position; without FILE and --code";
+    let made = Ok(command(alloc, "explain", about));
+    let made = with_arg(made, optional(alloc, "file", "FILE", file));
+    let made = with_arg(made, option(alloc, "code", "WORD", code));
+    with_arg(made, option(alloc, "position", "WORD", position))
 }
 
 fn present_command<'a>(alloc: Global) -> Result<Command<'a>, AllocError>

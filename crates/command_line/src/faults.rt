@@ -13,6 +13,8 @@ pub enum Exclusion {
     Compare,
     /// `--latex` and `--relations` of `describe`, without those of `Outputs`.
     Description,
+    /// The file, the code and the position of `explain`.
+    Explain,
     /// The options of `describe` that say what is printed, one of `--json`, `--singular` and `--gap`
     /// among them.
     Outputs,
@@ -72,6 +74,7 @@ fn exclusion_line(exclusion: Exclusion) -> &'static str
         }
         Exclusion::Compare => "misere: standard input has one of the two certificates\n",
         Exclusion::Description => "misere: --latex goes without --relations\n",
+        Exclusion::Explain => "misere: one of FILE, --code and --position\n",
         Exclusion::Outputs => {
             "misere: one of --latex, --relations, --json, --singular and --gap\n"
         }

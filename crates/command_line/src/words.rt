@@ -1,18 +1,17 @@
 //! What the words of a command line ask for.
-ghost use Rattle.std.specs.Prelude.{◌≡◌, ◌≢◌, [], Some, None, false, IfOk, IfErr, map};
+ghost use Rattle.std.specs.Prelude.{◌≡◌, ◌≢◌, [], None, IfOk, IfErr, map};
 ghost use Rattle.clap.specs.Words.{fault_of, kind_of, subcommand_of, subcommand_rows_of};
-ghost use Rattle.command_line.specs.Plans.{HasNumbersWithin};
 ghost use Rattle.command_line.specs.Program.{program};
-ghost use Rattle.command_line.specs.Refusals.{IsOfKind, IsFaultOf, conflicts_in};
-ghost use Rattle.command_line.specs.Requests.{plan_of};
-ghost use Rattle.requests.specs.Requests.{request_of};
+ghost use Rattle.command_line.specs.Refusals.{IsOfKind, IsFaultOf};
+ghost use Rattle.command_line.specs.Requests.{plan_of, word_of};
+ghost use Rattle.command_line.specs.Wanted.{IsAskedBy};
 
-use crate::asking::command_plan;
+use crate::asking::command_asked;
 use crate::commands::program_command;
 use crate::faults::UsageFault;
+use crate::wanted::Asked;
 use clap::ArgMatches;
 use clap::error::ErrorKind;
-use requests::Plan;
 use std::alloc::Global;
 
 fn refused(alloc: Global, e: &clap::Error) -> UsageFault
@@ -38,7 +37,8 @@ fn parsed<'a>(alloc: Global, words: &'a [&'a str]) -> Result<ArgMatches<'a>, Usa
     ensures found { IfOk result (λ m. subcommand_rows_of m
         ≡ subcommand_of program (map (λ w. w.now) words.entry.now)) }
     ensures nothing { IfErr result (λ fault. fault ≢ UsageFault.Memory
-        → plan_of (map (λ w. w.now) words.entry.now) ≡ None) }
+        → (plan_of (map (λ w. w.now) words.entry.now) ≡ None)
+        × (word_of (map (λ w. w.now) words.entry.now) ≡ None)) }
     ensures fault { IfErr result (IsFaultOf (map (λ w. w.now) words.entry.now)) }
 {
     let Ok(command) = program_command(alloc) else {
@@ -54,19 +54,16 @@ fn parsed<'a>(alloc: Global, words: &'a [&'a str]) -> Result<ArgMatches<'a>, Usa
 /// for nothing. Words that ask for something meet no other fault than want of memory. Each number
 /// that is asked for lies in its range, and is the default where none is given; no options that
 /// exclude each other are given.
-pub fn plan<'a>(alloc: Global, words: &'a [&'a str]) -> Result<Plan<'a>, UsageFault>
-    ensures asked { IfOk result (λ plan. plan_of (map (λ w. w.now) words.entry.now)
-        ≡ Some (request_of plan)) }
-    ensures numbers { IfOk result HasNumbersWithin }
-    ensures apart { IfOk result (λ _. conflicts_in (subcommand_of program
-        (map (λ w. w.now) words.entry.now)) ≡ false) }
+pub fn asked<'a>(alloc: Global, words: &'a [&'a str]) -> Result<Asked<'a>, UsageFault>
+    ensures asked { IfOk result (IsAskedBy (map (λ w. w.now) words.entry.now)) }
     ensures nothing { IfErr result (λ fault. fault ≢ UsageFault.Memory
-        → plan_of (map (λ w. w.now) words.entry.now) ≡ None) }
+        → (plan_of (map (λ w. w.now) words.entry.now) ≡ None)
+        × (word_of (map (λ w. w.now) words.entry.now) ≡ None)) }
     ensures fault { IfErr result (IsFaultOf (map (λ w. w.now) words.entry.now)) }
 {
     let matches = parsed(alloc, words)?;
     match matches.subcommand() {
-        Some((name, given)) => command_plan(alloc, name, given),
+        Some((name, given)) => command_asked(alloc, name, given),
         None => Err(UsageFault::Incomplete),
     }
 }

@@ -1,19 +1,21 @@
 //! A whole run.
 ghost use Rattle.std.specs.Prelude.{◌≡◌, ◌≤◌, false, IfOk, map};
-ghost use Rattle.command_line.specs.Requests.{plan_of};
+ghost use Rattle.command_line.specs.Requests.{plan_of, word_request_of};
 ghost use Rattle.command_line.specs.Status.{status_of, text_of};
 ghost use Rattle.streams.specs.Printers.{PrintsLine, printer};
 ghost use Rattle.commands.specs.Causes.{failed, notes, reads_input, runs_script, takes_files};
 ghost use Rattle.commands.specs.Obeys.{scene};
-ghost use Rattle.whole_runs.specs.Ends.{Ends};
+ghost use Rattle.command_results.specs.Stops.{stop_line};
+ghost use Rattle.whole_runs.specs.Ends.{Ends, ExplainsWord};
 
-use command_line::{UsageFault, plan};
-use command_results::{Stop, print, tell};
+use command_line::{Asked, ExplainedWord, UsageFault, asked};
+use command_results::{Said, Stop, print, tell};
 use commands::run_plan;
 use folders::Folder;
 use std::alloc::{AllocError, Global};
 use std::convert::AsStr;
 use streams::{Sink, Source};
+use word_command::{explain_code, explain_position};
 
 /// Answers words that are no request, nor ask for help.
 fn refuse<E: Sink>(fault: &UsageFault, err: &mut E) -> u8
@@ -23,6 +25,27 @@ fn refuse<E: Sink>(fault: &UsageFault, err: &mut E) -> u8
 {
     tell(err, fault.text(), "", "");
     fault.status()
+}
+
+/// Answers that memory was wanting.
+fn want<E: Sink>(err: &mut E) -> u8
+    ensures status { result ≡ 3 }
+    ensures told { PrintsLine (printer (E.taken err.old) (E.failures err.old))
+        (printer (E.taken err.new) (E.failures err.new)) (stop_line Stop.Memory) }
+{
+    Stop::Memory.tell(err);
+    3
+}
+
+/// What is said of a word.
+fn explain_word(alloc: Global, word: ExplainedWord<'_>) -> Result<Said, AllocError>
+    ensures { IfOk result
+        (λ s. ExplainsWord (word_request_of word.entry) s.text.items s.succeeds) }
+{
+    match word {
+        ExplainedWord::Code(code) => explain_code(alloc, code),
+        ExplainedWord::Position(position) => explain_position(alloc, position),
+    }
 }
 
 /// Does a whole run by the words.
@@ -52,8 +75,12 @@ fn run_words<F: Folder, S: Source, W: Sink, E: Sink>(
     ensures folder { takes_files (plan_of (map (λ w. w.now) words.entry.now)) ≡ false
         → folder.new ≡ folder.old }
 {
-    match plan(alloc, words) {
-        Ok(plan) => run_plan(alloc, plan, folder, input, out, err),
+    match asked(alloc, words) {
+        Ok(Asked::Plan(plan)) => run_plan(alloc, plan, folder, input, out, err),
+        Ok(Asked::Word(word)) => match explain_word(alloc, word) {
+            Ok(said) => said.print(out, err),
+            Err(_) => want(err),
+        },
         Err(UsageFault::Help(text)) => print(text.as_bytes(), 0, out, err),
         Err(UsageFault::Memory) => refuse(&UsageFault::Memory, err),
         Err(UsageFault::Words(text)) => refuse(&UsageFault::Words(text), err),
@@ -110,9 +137,6 @@ pub fn run<F: Folder, S: Source, W: Sink, E: Sink, T: AsStr>(
 {
     match texts_of(alloc, words) {
         Ok(texts) => run_words(alloc, texts.as_slice(), folder, input, out, err),
-        Err(_) => {
-            Stop::Memory.tell(err);
-            3
-        }
+        Err(_) => want(err),
     }
 }

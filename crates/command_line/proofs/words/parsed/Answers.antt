@@ -7,7 +7,7 @@ use Rattle.command_line.specs.Program.{program}
 use Rattle.command_line.specs.Refusals.{IsOfKind, IsFaultOf}
 use Rattle.command_line.specs.declared.faults.UsageFault.{UsageFault}
 use Rattle.command_line.specs.declared.faults.UsageFault.TheVariants.{Memory, Help, Words}
-use Rattle.command_line.proofs.Reading.{plan_of-refused}
+use Rattle.command_line.proofs.Reading.{plan_of-refused, word_of-refused}
 use Rattle.command_line.proofs.words.parsed.Goals as goal
 
 free : is_simple_and_free program ≡ true
@@ -31,9 +31,13 @@ returns-in-Err-clause-nothing c =
     let words = map (λ (w : Bor (List ℕ)). w.now) c.args.words.now in
     elim (c.in-Err.ensures.kinds (ap is_simple_and_free c.in-Ok.ensures ∙ free)) [
       | inl memory ↦ λ other. absurd (other (c.refused.ensures.memory memory))
-      | inr among ↦ λ other. plan_of-refused words (kind_of c.in-Err.e)
-          (subst (λ (a : App). IsAmong (kind_of c.in-Err.e) (fault_of a words)) c.in-Ok.ensures
-          among)
+      | inr among ↦
+          let here = subst (λ (a : App). IsAmong (kind_of c.in-Err.e) (fault_of a words)) c.in-Ok.ensures
+          among in
+          λ other. (
+            plan_of-refused words (kind_of c.in-Err.e) here,
+            word_of-refused words (kind_of c.in-Err.e) here,
+          )
     ]
 
 pub returns-in-Err-clause-fault : goal.returns-in-Err-clause-fault

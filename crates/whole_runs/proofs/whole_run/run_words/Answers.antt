@@ -1,13 +1,25 @@
 use Rattle.std.proofs.Common.{rules, refl, arith, Bor, ℕ, List, map}
 use Rattle.requests.specs.Requests.{request_of}
 use Rattle.command_line.specs.declared.faults.UsageFault.TheVariants.{Help, Words, Number, Exclusive, Incomplete}
-use Rattle.whole_runs.specs.Ends.Ends.{Asked, Helped, Refused}
-use Rattle.whole_runs.proofs.Outcomes.{known_as, no_request}
+use Rattle.command_line.specs.Requests.{word_request_of}
+use Rattle.command_line.specs.declared.wanted.Asked.TheVariants.{Plan, Word}
+use Rattle.whole_runs.specs.Ends.Ends.{Asked, Explained, Helped, Refused}
+use Rattle.whole_runs.proofs.Outcomes.{asked_as, known_as, no_request}
 use Rattle.whole_runs.proofs.whole_run.run_words.Goals as goal
+
+pub returns-in-Ok-Plan-clause-ends : goal.returns-in-Ok-Plan-clause-ends
+returns-in-Ok-Plan-clause-ends g c =
+    Asked (request_of c.in-Ok-Plan.plan)
+    (asked_as (map (λ (w : Bor (List ℕ)). w.now) c.args.words.now) c.in-Ok-Plan.field-0
+    (Plan c.in-Ok-Plan.plan) c.in-Ok-Plan.field-0-is c.in-Ok-Plan.ensures.asked).0
+    c.run_plan.ensures.obeys
 
 pub returns-in-Ok-clause-ends : goal.returns-in-Ok-clause-ends
 returns-in-Ok-clause-ends g c =
-    Asked (request_of c.in-Ok.plan) c.in-Ok.ensures.asked c.run_plan.ensures.obeys
+    let asks = asked_as (map (λ (w : Bor (List ℕ)). w.now) c.args.words.now) c.in-Ok-Word.field-0
+    (Word c.in-Ok-Word.word) c.in-Ok-Word.field-0-is c.in-Ok-Word.ensures.asked in
+    Explained (word_request_of c.in-Ok-Word.word) asks.0 asks.1 c.in-Ok.said.text.items
+    c.in-Ok.said.succeeds c.in-Ok.ensures refl c.print.ensures.printed
 
 pub returns-in-Err-Help-clause-ends : goal.returns-in-Err-Help-clause-ends
 returns-in-Err-Help-clause-ends g c =
@@ -16,7 +28,7 @@ returns-in-Err-Help-clause-ends g c =
     (no_request (map (λ (w : Bor (List ℕ)). w.now) c.args.words.now) c.in-Err-Help.field-0
     (Help c.in-Err-Help.text) c.in-Err-Help.field-0-is (λ e. omega (arith, e))
     c.in-Err-Help.ensures.nothing)
-    c.as_bytes.result.now refl c.print.ensures.printed
+    c.as_bytes.result.now refl c.print-in-Err-Help.ensures.printed
 
 pub returns-in-Err-Words-clause-ends : goal.returns-in-Err-Words-clause-ends
 returns-in-Err-Words-clause-ends g c =
