@@ -12,8 +12,10 @@ use Rattle.relations.specs.declared.finding.Form.{Form}
 use Rattle.relations.specs.declared.finding.Form.TheVariants.{Short, Basis}
 use Rattle.relations.specs.declared.text.Notation.{Notation}
 use Rattle.relations.specs.declared.text.Notation.TheVariants as written
-use Rattle.relations.specs.declared.fault.Undescribed.{Undescribed}
-use Rattle.relations.specs.declared.fault.Undescribed.TheVariants as bound
+use Rattle.relations.specs.Met.{bound_of}
+use Rattle.relations.specs.declared.fault.MetBound.{MetBound}
+use Rattle.relations.specs.declared.fault.Bound.{Bound}
+use Rattle.relations.specs.declared.fault.Bound.TheVariants as bound
 use Rattle.requests.specs.declared.plans.Output.{Output}
 use Rattle.requests.specs.declared.plans.Output.TheVariants.{Description, Latex, Json, Relations, Singular, Gap}
 
@@ -23,18 +25,14 @@ form_of true = Basis
 form_of false = Short
 
 -- the line of each bound within which a quotient is not described
-abbrev pub bound_line : Undescribed → List ℕ
+abbrev pub bound_line : Bound → List ℕ
 bound_line bound.Letters = codes "not described within 26 generators\n"
 bound_line bound.Exponents = codes "not described within exponents of 64\n"
 bound_line bound.Unshown = codes "not described within 512 rules\n"
-bound_line bound.Memory = codes ""
 
--- the line says within which bound a quotient is not described
+-- the line of a bound that a search for relations met
 abbrev pub IsBoundLine : List ℕ → Type 0
-IsBoundLine text =
-    (text ≡ codes "not described within 26 generators\n")
-    ⊎ ((text ≡ codes "not described within exponents of 64\n")
-    ⊎ (text ≡ codes "not described within 512 rules\n"))
+IsBoundLine text = (met : MetBound) × (text ≡ bound_line (bound_of met))
 
 -- the line that names the bound of `present` that relations are above
 abbrev pub note_line : PresentBound → List ℕ

@@ -10,8 +10,8 @@ use answers::Certified;
 use check_command::certified;
 use command_results::{Noted, Said, Stop};
 use descriptions::{
-    Form, Notation, PresentBound, RelationsWord, System, Undescribed, description_text, ideal_text,
-    relations_word,
+    Bound, Form, Notation, PresentBound, RelationsWord, System, Undescribed, description_text,
+    ideal_text, relations_word,
 };
 use folders::Folder;
 use requests::Output;
@@ -36,15 +36,23 @@ fn refuse(alloc: Global, line: &str) -> Result<Noted, Memory>
 }
 
 /// The line that says within which bound a quotient is not described.
+fn bound_line(bound: Bound) -> &'static str
+    ensures { result.now ≡ bound_line bound }
+{
+    match bound {
+        Bound::Letters => "not described within 26 generators\n",
+        Bound::Exponents => "not described within exponents of 64\n",
+        Bound::Unshown => "not described within 512 rules\n",
+    }
+}
+
+/// The line of the bound that the search for relations met.
 fn undescribed(alloc: Global, fault: Undescribed) -> Result<Noted, Memory>
-    ensures bound { IfOk result (λ n. IsBoundLine n.said.text.items × (n.said.succeeds ≡ false)
+    ensures { IfOk result (λ n. IsBoundLine n.said.text.items × (n.said.succeeds ≡ false)
         × (option_map (λ t. t.now) n.note ≡ None)) }
-    ensures line { IfOk result (λ n. n.said.text.items ≡ bound_line fault) }
 {
     match fault {
-        Undescribed::Letters => refuse(alloc, "not described within 26 generators\n"),
-        Undescribed::Exponents => refuse(alloc, "not described within exponents of 64\n"),
-        Undescribed::Unshown => refuse(alloc, "not described within 512 rules\n"),
+        Undescribed::Bound(met) => refuse(alloc, bound_line(met.bound())),
         Undescribed::Memory => Err(Memory),
     }
 }

@@ -11,3 +11,4 @@ pub mod Assembled
 pub mod Polynomials
 pub mod Trivial
 pub mod Beside
+pub mod Heaps

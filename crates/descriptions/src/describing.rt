@@ -183,7 +183,7 @@ fn findings_text(
 /// The certified quotient as the literature prints it, plain or for LaTeX, or as one object of JSON:
 /// its relations in this form, its portion, orders, generators, standard invariants, and the
 /// pretending function in words.
-/// Refuses `Letters`, `Exponents` and `Unshown` where it isn't described.
+/// Where it isn't described, it tells the bound that the search for relations met.
 pub fn description_text(
     alloc: Global,
     notation: Notation,
@@ -198,8 +198,8 @@ pub fn description_text(
 }
 
 /// The ideal of the certified quotient's relations in this form, for Singular or GAP, with the
-/// ordering in which the reduced basis of the relations is the reduced Gröbner basis. Refuses
-/// `Letters`, `Exponents` and `Unshown` where the quotient isn't described.
+/// ordering in which the reduced basis of the relations is the reduced Gröbner basis.
+/// Where the quotient isn't described, it tells the bound that the search for relations met.
 pub fn ideal_text(
     alloc: Global,
     system: System,

@@ -1,5 +1,5 @@
 //! What is printed of a quotient.
-ghost use Rattle.std.specs.Prelude.{◌≡◌, ◌<◌, IfOk, IfSome, All, length, vec_len};
+ghost use Rattle.std.specs.Prelude.{◌≡◌, ◌<◌, IfOk, All, Contains, length, vec_len};
 ghost use Rattle.std.specs.List.{AllZip};
 ghost use Rattle.certificate.specs.Fields.{grid_of};
 ghost use Rattle.relations.specs.Printed.{ArePrintable};
@@ -40,17 +40,18 @@ pub fn table_of(alloc: Global, certified: &Certified) -> Result<Table, Memory>
     }
 }
 
-/// The first heap that has the element.
-fn first_heap(certified: &Certified, element: u16) -> Option<u64>
-    ensures { IfSome result (IsFirstHeap certified.now element) }
+/// The first heap that has the element, which some heap has.
+fn first_heap(certified: &Certified, element: u16) -> u64
+    requires { Contains certified.now.phi element }
+    ensures { IsFirstHeap certified.now element result }
 {
     let cert = certified.cert();
     for heap in 1..cert.start() + cert.period() {
         if certified.element(heap) == element {
-            return Some(heap);
+            return heap;
         }
     }
-    None
+    unreachable!()
 }
 
 /// The first heaps that have the elements.
@@ -58,15 +59,14 @@ fn first_heaps(
     alloc: Global,
     certified: &Certified,
     elements: &[u16],
-) -> Result<Vec<u64>, Undescribed>
+) -> Result<Vec<u64>, Memory>
+    requires { All (Contains certified.now.phi) elements.now }
     ensures heaps { IfOk result (λ r. AllZip (IsFirstHeap certified.now) elements.now r.items) }
     ensures long { IfOk result (λ r. vec_len r ≡ length elements.now) }
 {
     let mut heaps = Vec::new(alloc);
     for element in elements {
-        let Some(heap) = first_heap(certified, *element) else {
-            return Err(Undescribed::Unshown);
-        };
+        let heap = first_heap(certified, *element);
         heaps.push(heap)?;
     }
     Ok(heaps)
@@ -85,6 +85,7 @@ pub fn describe_table(
     ensures words { IfOk result (λ d. vec_len d.words ≡ certified.now.order) }
     ensures elements { IfOk result
         (λ d. All (λ e. e < certified.now.order) d.elements.items) }
+    ensures among { IfOk result (λ d. All (Contains certified.now.phi) d.elements.items) }
     ensures printable { IfOk result
         (λ d. ArePrintable (vec_len d.elements) d.relations.items) }
 {

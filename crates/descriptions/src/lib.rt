@@ -17,5 +17,5 @@ mod tame;
 pub use describing::{description_text, ideal_text};
 pub use laws::tame_quotients_are_unique;
 pub use presenting::{PresentBound, RelationsWord, relations_word};
-pub use relations::{Form, Notation, Undescribed};
+pub use relations::{Bound, Form, MetBound, Notation, Undescribed};
 pub use systems::System;

@@ -169,7 +169,7 @@ fn chosen(alloc: Global, table: &Table, description: &Description) -> Result<Vec
 /// `present` that they are above, if there is one. Beside those of the description there is one
 /// between two powers of each letter, unless they are then too many or an exponent of such a
 /// relation is above `LARGEST_EXPONENT`.
-/// Refuses `Letters`, `Exponents` and `Unshown` where the quotient isn't described.
+/// Where the quotient isn't described, it tells the bound that the search for relations met.
 pub fn relations_word(
     alloc: Global,
     certified: &Certified,

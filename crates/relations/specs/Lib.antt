@@ -1,3 +1,4 @@
 pub mod Presented
 pub mod Printed
 pub mod Bases
+pub mod Met

@@ -1,10 +1,13 @@
 //! Why a table is not described.
+ghost use Rattle.std.specs.Prelude.{◌≡◌};
+ghost use Rattle.relations.specs.Met.{bound_of};
+
 use allocation::Memory;
 use std::alloc::{AllocError, AllocFailed};
 
-/// Why a table is not described.
+/// A bound of the search for relations.
 #[derive(Clone, Copy, Debug, PartialEq, Eq)]
-pub enum Undescribed {
+pub enum Bound {
     /// More than `LETTERS` generators were found.
     Letters,
     /// A relation that was found has an exponent above `LARGEST_EXPONENT`, or a word came to one above
@@ -12,8 +15,35 @@ pub enum Undescribed {
     Exponents,
     /// The relations that were found weren't shown to present the table within the bounds.
     Unshown,
+}
+
+/// That a search for relations met a bound. It is made by such a search alone.
+#[derive(Debug, Drop)]
+pub struct MetBound {
+    bound: Bound,
+}
+
+impl MetBound {
+    /// The bound that was met.
+    pub fn bound(&self) -> Bound
+        ensures { result ≡ bound_of self.now }
+    {
+        self.bound
+    }
+}
+
+/// Why a table is not described.
+#[derive(Debug, Drop)]
+pub enum Undescribed {
+    /// The search met a bound.
+    Bound(MetBound),
     /// A growth was refused.
     Memory,
+}
+
+/// The search met this bound.
+pub(crate) fn met(bound: Bound) -> Undescribed {
+    Undescribed::Bound(MetBound { bound })
 }
 
 impl From<Memory> for Undescribed {

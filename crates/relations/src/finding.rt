@@ -8,7 +8,7 @@ ghost use Rattle.relations.specs.Printed.{ArePrintable};
 
 use crate::basis::are_of_form;
 use crate::checking::is_shown;
-use crate::fault::Undescribed;
+use crate::fault::{Bound, Undescribed, met};
 use crate::generating::generators;
 use crate::least::{Least, least_words};
 use crate::listing::{are_printable, is_listing, lead_to};
@@ -100,7 +100,7 @@ pub fn described<A: Allocator + Copy>(
     let found = generators(alloc, table, elements)?;
     let letters = found.len();
     if letters > LETTERS {
-        return Err(Undescribed::Letters);
+        return Err(met(Bound::Letters));
     }
     let Least {
         words,
@@ -109,7 +109,7 @@ pub fn described<A: Allocator + Copy>(
     } = least_words(alloc, table, found.as_slice())?;
     let relations = formed(alloc, letters, basis, form)?;
     if !are_printable(letters, relations.as_slice()) {
-        return Err(Undescribed::Exponents);
+        return Err(met(Bound::Exponents));
     }
     let shown = is_shown(
         alloc,
@@ -121,13 +121,13 @@ pub fn described<A: Allocator + Copy>(
         STEPS,
     )?;
     if !shown || !is_listing(table.order(), listing.as_slice()) {
-        return Err(Undescribed::Unshown);
+        return Err(met(Bound::Unshown));
     }
     if !lead_to(words.as_slice(), relations.as_slice()) {
-        return Err(Undescribed::Unshown);
+        return Err(met(Bound::Unshown));
     }
     if !are_of_form(alloc, letters, words.as_slice(), relations.as_slice(), form)? {
-        return Err(Undescribed::Unshown);
+        return Err(met(Bound::Unshown));
     }
     Ok(Description {
         elements: found,

@@ -3,7 +3,7 @@ ghost use Rattle.std.specs.Prelude.{◌≡◌, ◌<◌, ◌≤◌, IfOk, All, le
 ghost use Rattle.presentations.specs.declared.TheConstants.{LETTERS};
 
 use crate::checking::{lengthened, value};
-use crate::fault::Undescribed;
+use crate::fault::{Bound, Undescribed, met};
 use crate::rewriting::is_same;
 use monoid_table::Table;
 use presentations::{LETTERS, Relation, Word};
@@ -52,7 +52,7 @@ pub struct Least<A: Allocator> {
 
 /// The elements' least words: of fewest letters, and of these the first in the alphabet. The
 /// relations are those of the words that aren't least, but are so without any one of their letters.
-/// Refuses `Exponents` where an exponent gets above `u8::MAX`.
+/// It meets the bound `Exponents` where an exponent gets above `u8::MAX`.
 pub fn least_words<A: Allocator + Copy>(
     alloc: A,
     table: &Table<A>,
@@ -79,7 +79,7 @@ pub fn least_words<A: Allocator + Copy>(
         let from = words[found[at] as usize];
         for i in last_letter(elements.len(), &from)..elements.len() {
             let Some(word) = lengthened(elements.len(), &from, i) else {
-                return Err(Undescribed::Exponents);
+                return Err(met(Bound::Exponents));
             };
             if is_corner(table, elements, words.as_slice(), &word) {
                 let e = value(table, elements, &word);

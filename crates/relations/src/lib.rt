@@ -19,7 +19,7 @@ mod shortening;
 mod text;
 
 pub use checking::{is_shown, value};
-pub use fault::Undescribed;
+pub use fault::{Bound, MetBound, Undescribed};
 pub use finding::{Description, Form, described};
 pub use laws::{texts_spell, words_present};
 pub use powers::presentable;

@@ -4,7 +4,7 @@ use crate::rows::{Row, count_held};
 use allocation::Memory;
 use monoid_table::Table;
 use presentations::LETTERS;
-use relations::{Description, Form, Undescribed, described, presentable};
+use relations::{Bound, Description, Form, Undescribed, described, presentable};
 use std::alloc::Global;
 
 /// A monoid, by its elements' numbers.
@@ -83,32 +83,32 @@ fn table_of(alloc: Global, monoid: &Monoid) -> Option<Table> {
     }
 }
 
-/// A monoid, whether its elements are given or none, and why it is not described by them, where it isn't.
-struct Told(Monoid, bool, Option<Undescribed>);
+/// A monoid, whether its elements are given or none, and within which bound it is not described by
+/// them, where it isn't.
+struct Told(Monoid, bool, Option<Bound>);
 
 /// Whether this is told of a table.
 fn is_told(
     table: &Table,
     told: Result<Description, Undescribed>,
-    fault: Option<Undescribed>,
+    bound: Option<Bound>,
 ) -> bool {
     match told {
-        Ok(found) => fault.is_none() && found.words.len() == table.order() as usize,
-        Err(told) => fault == Some(told),
+        Ok(found) => bound.is_none() && found.words.len() == table.order() as usize,
+        Err(Undescribed::Bound(met)) => bound == Some(met.bound()),
+        Err(Undescribed::Memory) => false,
     }
 }
 
 /// What is told of the table by its elements.
 fn by_elements(alloc: Global, table: &Table) -> Result<Description, Undescribed> {
-    if table.order() == 0 {
-        return Err(Undescribed::Unshown);
-    }
-    described(alloc, table, table.row(0), Form::Basis)
+    let elements = if table.order() == 0 { &[] } else { table.row(0) };
+    described(alloc, table, elements, Form::Basis)
 }
 
 impl Row for Told {
     fn holds(&self, alloc: Global) -> bool {
-        let Told(monoid, given, fault) = self;
+        let Told(monoid, given, bound) = self;
         let Some(table) = table_of(alloc, monoid) else {
             return false;
         };
@@ -117,19 +117,19 @@ impl Row for Told {
         } else {
             described(alloc, &table, &[], Form::Basis)
         };
-        is_told(&table, told, *fault)
+        is_told(&table, told, *bound)
     }
 }
 
 static ROWS: [Told; 8] = [
     Told(Monoid::Cyclic(2), true, None),
     Told(Monoid::Cyclic(64), true, None),
-    Told(Monoid::Cyclic(65), true, Some(Undescribed::Exponents)),
-    Told(Monoid::Cyclic(70), true, Some(Undescribed::Exponents)),
-    Told(Monoid::Cyclic(300), true, Some(Undescribed::Exponents)),
+    Told(Monoid::Cyclic(65), true, Some(Bound::Exponents)),
+    Told(Monoid::Cyclic(70), true, Some(Bound::Exponents)),
+    Told(Monoid::Cyclic(300), true, Some(Bound::Exponents)),
     Told(Monoid::Null(26), true, None),
-    Told(Monoid::Null(27), true, Some(Undescribed::Letters)),
-    Told(Monoid::Cyclic(2), false, Some(Undescribed::Unshown)),
+    Told(Monoid::Null(27), true, Some(Bound::Letters)),
+    Told(Monoid::Cyclic(2), false, Some(Bound::Unshown)),
 ];
 
 /// How many relations are given of the table as `present` takes them.

@@ -21,3 +21,14 @@ returns-clause-elements c =
     All-weaker (Contains entries) (λ e. e < C.order)
     (λ x k. All-contains (λ e. e < C.order) entries x all k) d.elements.items h)
     c.described.ensures.among
+
+pub returns-clause-among : goal.returns-clause-among
+returns-clause-among c =
+    let list : c.entries.result.now ≡ c.args.certified.now.phi =
+    c.entries.ensures ∙ ap (λ f. f.entries) c.phi.ensures
+    ∙ ap (λ x. x.phi) c.cert-cert.ensures.same
+    in
+    IfOk-weaker _ _ _
+    (λ (d : Description _) (h : All (Contains c.entries.result.now) d.elements.items).
+    subst (λ entries. All (Contains entries) d.elements.items) list h)
+    c.described.ensures.among

@@ -1,6 +1,9 @@
 use Rattle.std.proofs.Common.{◌∙◌, ap, length}
 use Rattle.descriptions.proofs.finding.find.Goals as goal
 
+pub first_heaps-requires : goal.first_heaps-requires
+first_heaps-requires c = rw (c.deref.ensures.value) c.in_ok-description.ensures.among
+
 pub returns : goal.returns
 returns c =
     let list = c.as_slice-listing.ensures.value in
