@@ -9,6 +9,9 @@ pub heap-of : (c : Certificate) (element : ℕ) → length c.phi + 1 ≡ c.start
     → Contains c.phi element
     → (heap : ℕ) × (1 ≤ heap) × (heap < c.start + c.period) × (phi_at c heap ≡ element)
 heap-of c element long (k, lt, is) =
-    let low : suc k < c.start + c.period = omega (arith, lt, long) in
-    (suc k, omega arith, low,
-    rw (lt-ltb (suc k) (c.start + c.period) low) (get_or_default c.phi k 0 element lt ∙ is))
+    let low : suc k < c.start + c.period = omega (arith, lt, long) in (
+      suc k,
+      omega arith,
+      low,
+      rw (lt-ltb (suc k) (c.start + c.period) low) (get_or_default c.phi k 0 element lt ∙ is),
+    )

@@ -55,11 +55,7 @@ fn first_heap(certified: &Certified, element: u16) -> u64
 }
 
 /// The first heaps that have the elements.
-fn first_heaps(
-    alloc: Global,
-    certified: &Certified,
-    elements: &[u16],
-) -> Result<Vec<u64>, Memory>
+fn first_heaps(alloc: Global, certified: &Certified, elements: &[u16]) -> Result<Vec<u64>, Memory>
     requires { All (Contains certified.now.phi) elements.now }
     ensures heaps { IfOk result (λ r. AllZip (IsFirstHeap certified.now) elements.now r.items) }
     ensures long { IfOk result (λ r. vec_len r ≡ length elements.now) }

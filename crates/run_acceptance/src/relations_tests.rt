@@ -88,11 +88,7 @@ fn table_of(alloc: Global, monoid: &Monoid) -> Option<Table> {
 struct Told(Monoid, bool, Option<Bound>);
 
 /// Whether this is told of a table.
-fn is_told(
-    table: &Table,
-    told: Result<Description, Undescribed>,
-    bound: Option<Bound>,
-) -> bool {
+fn is_told(table: &Table, told: Result<Description, Undescribed>, bound: Option<Bound>) -> bool {
     match told {
         Ok(found) => bound.is_none() && found.words.len() == table.order() as usize,
         Err(Undescribed::Bound(met)) => bound == Some(met.bound()),
@@ -102,8 +98,10 @@ fn is_told(
 
 /// What is told of the table by its elements.
 fn by_elements(alloc: Global, table: &Table) -> Result<Description, Undescribed> {
-    let elements = if table.order() == 0 { &[] } else { table.row(0) };
-    described(alloc, table, elements, Form::Basis)
+    if table.order() == 0 {
+        return described(alloc, table, &[], Form::Basis);
+    }
+    described(alloc, table, table.row(0), Form::Basis)
 }
 
 impl Row for Told {

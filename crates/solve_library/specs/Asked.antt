@@ -16,4 +16,4 @@ abbrev pub IsOpenedUntold : Option Certificate → ℕ → ℕ → ℕ → Type 
 IsOpenedUntold opened output form status =
     ((status ≡ 17) × (opened ≡ None))
     ⊎ ((c : Certificate) × (opened ≡ Some c)
-    × (((status ≡ 15) × (2 ≤ form)) ⊎ IsUntoldOf output (form_at form) c status))
+    × (((status ≡ 15) × (2 ≤ form)) ⊎ IsUntoldOf output status))

@@ -11,13 +11,10 @@ use Rattle.answers.specs.Refusals.{refusal_number}
 use Rattle.answers.specs.declared.refusal.Refusal.{Refusal}
 use Rattle.check_machine.specs.Turns.{verdict}
 use Rattle.descriptions.specs.Described.{IsDescription, IsIdealText, IsPresentable}
-use Rattle.descriptions.specs.Presenting.{IsRefusedWord}
-use Rattle.descriptions.specs.declared.presenting.PresentBound.{PresentBound}
 use Rattle.descriptions.specs.declared.systems.System.TheVariants.{Singular, Gap}
 use Rattle.quotient_search.specs.declared.aim.TheConstants.{DEEPEST}
 use Rattle.relations.specs.declared.fault.Undescribed.{Undescribed}
 use Rattle.relations.specs.declared.fault.Undescribed.TheVariants.{Bound, Memory as NoMemory}
-use Rattle.relations.specs.declared.fault.MetBound.{MetBound}
 use Rattle.relations.specs.declared.finding.Form.{Form}
 use Rattle.relations.specs.declared.finding.Form.TheVariants.{Short, Basis}
 use Rattle.relations.specs.declared.text.Notation.TheVariants.{Plain, Latex, Json}
@@ -137,29 +134,15 @@ abbrev pub IsRefusal : List ℕ → ℕ → ℕ → Type 0
 IsRefusal bytes limit status = (refusal : Refusal Global) × (status ≡ refusal_number refusal)
     × IsTrueOf bytes limit (refused refusal) × (refused refusal ≡ verdict bytes limit)
 
--- the search for relations met a bound, or memory was refused
-abbrev pub HasMet : ℕ → Type 0
-HasMet status = ((status ≡ 16) × MetBound) ⊎ (status ≡ 9)
-
--- `present` refuses the quotient's relations in this form, as one word
-abbrev pub IsRefusedByPresent : ℕ → Form → Certificate → Type 0
-IsRefusedByPresent output form c =
-    (output ≡ 2) × ((b : PresentBound) × (word : List ℕ) × IsRefusedWord form c b word)
-
--- Why a quotient isn't described: the search for relations met a bound, or one word is asked for, and
--- `present` refuses it; or memory was refused.
-abbrev pub IsUndescribed : ℕ → Form → Certificate → ℕ → Type 0
-IsUndescribed output form c status = HasMet status ⊎ ((status ≡ 16) × IsRefusedByPresent output form c)
-
 -- why no text of a certified quotient is told: there is no such output, or the quotient isn't
 -- described, or memory was refused
-abbrev pub IsUntoldOf : ℕ → Form → Certificate → ℕ → Type 0
-IsUntoldOf output form c status = ((status ≡ 15) × (6 ≤ output)) ⊎ IsUndescribed output form c status
+abbrev pub IsUntoldOf : ℕ → ℕ → Type 0
+IsUntoldOf output status = ((status ≡ 15) × (6 ≤ output)) ⊎ ((status ≡ 16) ⊎ (status ≡ 9))
 
 -- Why no text is told: there is no such output or form; or the bytes are certified, and the quotient
--- isn't described, or memory was refused; or the bytes are refused, by their verdict.
+-- isn't described; or memory was refused; or the bytes are, by their verdict.
 abbrev pub IsUntold : List ℕ → ℕ → ℕ → ℕ → ℕ → Type 0
 IsUntold bytes limit output form status =
     ((status ≡ 15) × ((6 ≤ output) ⊎ (2 ≤ form)))
-    ⊎ (Certify bytes limit (λ c. IsUndescribed output (form_at form) c status)
+    ⊎ (((status ≡ 16) × Certify bytes limit (λ c. Unit {0}))
     ⊎ ((status ≡ 9) ⊎ IsRefusal bytes limit status))

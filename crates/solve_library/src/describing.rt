@@ -1,9 +1,8 @@
 //! The description of a certified quotient.
-ghost use Rattle.std.specs.Prelude.{◌≡◌, ◌≢◌, ◌≤◌, ◌⊎◌, IfOk, IfErr, None, Some};
+ghost use Rattle.std.specs.Prelude.{◌≡◌, ◌≢◌, ◌≤◌, ◌⊎◌, IfOk, IfErr, None};
 ghost use Rattle.std.specs.String.{string_bytes};
 ghost use Rattle.descriptions.specs.Described.{IsDescription, IsIdealText};
-ghost use Rattle.descriptions.specs.declared.presenting.PresentBound.{PresentBound};
-ghost use Rattle.solve_library.specs.Found.{HasMet, IsTextFor, IsTextOf, IsUndescribed, IsUntold, IsUntoldOf, form_at, undescribed_number};
+ghost use Rattle.solve_library.specs.Found.{IsTextFor, IsTextOf, IsUntold, IsUntoldOf, form_at, undescribed_number};
 
 use crate::numbers::{MEMORY, NOT_DESCRIBED, NOT_IN_RANGE};
 use answers::Certified;
@@ -16,8 +15,7 @@ use std::alloc::Global;
 
 /// The status of a quotient that isn't described.
 fn undescribed(fault: Undescribed) -> u32
-    ensures number { result ≡ undescribed_number fault }
-    ensures why { HasMet result }
+    ensures { result ≡ undescribed_number fault }
 {
     match fault {
         Undescribed::Bound(_) => NOT_DESCRIBED,
@@ -28,8 +26,7 @@ fn undescribed(fault: Undescribed) -> u32
 /// The word, where `present` takes it.
 fn taken(found: RelationsWord) -> Result<String, u32>
     ensures word { IfOk result (λ t. (t ≡ found.word) × (found.beyond ≡ None)) }
-    ensures why { IfErr result (λ s. (s ≡ 16)
-        × ((b : PresentBound) × (found.beyond ≡ Some b))) }
+    ensures why { IfErr result (λ s. (s ≡ 16) × (found.beyond ≢ None)) }
 {
     match found.beyond {
         None => Ok(found.word),
@@ -41,7 +38,7 @@ fn taken(found: RelationsWord) -> Result<String, u32>
 fn presentable(alloc: Global, certified: &Certified, form: Form) -> Result<String, u32>
     ensures told { IfOk result
         (λ t. IsTextFor 2 form certified.now (string_bytes t)) }
-    ensures why { IfErr result (IsUndescribed 2 form certified.now) }
+    ensures why { IfErr result (λ s. (s ≡ 16) ⊎ (s ≡ 9)) }
 {
     match relations_word(alloc, certified, form) {
         Ok(found) => taken(found),
@@ -57,7 +54,7 @@ fn written(
     form: Form,
 ) -> Result<String, u32>
     ensures told { IfOk result (λ t. IsDescription notation form certified.now (string_bytes t)) }
-    ensures why { IfErr result HasMet }
+    ensures why { IfErr result (λ s. (s ≡ 16) ⊎ (s ≡ 9)) }
 {
     match description_text(alloc, notation, certified, form) {
         Ok(text) => Ok(text),
@@ -68,7 +65,7 @@ fn written(
 /// The ideal of the quotient's relations, or the status.
 fn computed(alloc: Global, certified: &Certified, system: System, form: Form) -> Result<String, u32>
     ensures told { IfOk result (λ t. IsIdealText system form certified.now (string_bytes t)) }
-    ensures why { IfErr result HasMet }
+    ensures why { IfErr result (λ s. (s ≡ 16) ⊎ (s ≡ 9)) }
 {
     match ideal_text(alloc, system, certified, form) {
         Ok(text) => Ok(text),
@@ -80,7 +77,7 @@ fn computed(alloc: Global, certified: &Certified, system: System, form: Form) ->
 fn text_for(alloc: Global, certified: &Certified, output: u32, form: Form) -> Result<String, u32>
     ensures told { IfOk result
         (λ t. IsTextFor output form certified.now (string_bytes t)) }
-    ensures why { IfErr result (IsUntoldOf output form certified.now) }
+    ensures why { IfErr result (IsUntoldOf output) }
 {
     match output {
         0 => written(alloc, certified, Notation::Plain, form),
@@ -109,8 +106,7 @@ pub(crate) fn text_by(
 ) -> Result<String, u32>
     ensures told { IfOk result
         (λ t. IsTextFor output (form_at form) certified.now (string_bytes t)) }
-    ensures why { IfErr result (λ s. ((s ≡ 15) × (2 ≤ form))
-        ⊎ IsUntoldOf output (form_at form) certified.now s) }
+    ensures why { IfErr result (λ s. ((s ≡ 15) × (2 ≤ form)) ⊎ IsUntoldOf output s) }
 {
     if form > 1 {
         return Err(NOT_IN_RANGE);
