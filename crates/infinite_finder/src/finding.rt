@@ -108,10 +108,11 @@ fn accepted_by_running<A: SmallAllocator + Copy>(
     alloc: A,
     code: &Code,
     quotient: &HeapQuotient<A>,
+    last: usize,
     limit: u32,
 ) -> Result<Option<Vec<u8, A>>, Halt> {
     let mut work = Work::new(RUNNING_WORK);
-    match text_by_running(alloc, code, quotient, limit, &mut work) {
+    match text_by_running(alloc, code, quotient, last, limit, &mut work) {
         Err(Halt::Memory) => Err(Halt::Memory),
         Ok(text) => Ok(text),
         _ => Ok(None),
@@ -173,7 +174,7 @@ impl<A: SmallAllocator + Copy> Part<A> {
         }
         let mut text = self.text_by(alloc, code, quotient, limit)?;
         if text.is_none() && self.guesses == 0 {
-            text = accepted_by_running(alloc, code, quotient, limit)?;
+            text = accepted_by_running(alloc, code, quotient, heap, limit)?;
         }
         if self.guesses == 0 {
             let mut work = Work::new(TRY_WORK);
@@ -181,6 +182,23 @@ impl<A: SmallAllocator + Copy> Part<A> {
         }
         self.guesses = self.guesses.saturating_add(1);
         Ok(text)
+    }
+}
+
+/// The text of a certificate where a search for quotients has halted, with one heap more than the last
+/// quotient has, if it is found.
+fn search_beyond<A: SmallAllocator + Copy>(
+    alloc: A,
+    code: &Code,
+    guesses: &Guesses<'_, A>,
+    heaps: usize,
+    limit: u32,
+) -> Result<Result<Vec<u8, A>, Unfound>, Halt> {
+    let reached = guesses.quotient().heaps().len();
+    let last = reached.saturating_add(1).min(heaps);
+    match accepted_by_running(alloc, code, guesses.quotient(), last, limit)? {
+        Some(text) => Ok(Ok(text)),
+        None => Ok(Err(Unfound::Work { heap: reached })),
     }
 }
 
@@ -203,7 +221,7 @@ fn search<A: SmallAllocator + Copy>(
             Ok(Some(heap)) => heap,
             Ok(None) => return Ok(Err(Unfound::Finite { heaps })),
             Err(Halt::Memory) => return Err(Halt::Memory),
-            Err(_) => return Ok(Err(Unfound::Work { heap: part.heap })),
+            Err(_) => return search_beyond(alloc, code, &guesses, heaps, limit),
         };
         if let Some(text) = part.look(alloc, code, guesses.quotient(), heap, limit)? {
             return Ok(Ok(text));

@@ -72,10 +72,11 @@ pub fn text_by_running<A: SmallAllocator + Copy>(
     alloc: A,
     code: &Code,
     quotient: &HeapQuotient<A>,
+    last: usize,
     limit: u32,
     work: &mut Work,
 ) -> Result<Option<Vec<u8, A>>, Halt> {
-    let mut pairs = RunningPairs::new(alloc, code, quotient, work)?;
+    let mut pairs = RunningPairs::new(alloc, code, quotient, last, work)?;
     for _ in 0..u64::MAX {
         let Some(pair) = pairs.go_on(work)? else {
             return Ok(None);

@@ -31,6 +31,13 @@ impl Score {
         self.down.min(self.up)
     }
 
+    /// Whether they depend less on both, for how much they depend on each, or as little and more on each.
+    pub fn is_better(self, other: Score) -> bool {
+        let own = self.both.saturating_mul(other.depth());
+        let others = other.both.saturating_mul(self.depth());
+        own < others || own == others && self.depth() > other.depth()
+    }
+
     /// Whether they hardly depend on both, if at all.
     pub fn is_clear(self) -> bool {
         self.both.saturating_mul(CLEAR) <= self.depth()

@@ -77,6 +77,16 @@ impl<A: Allocator> Generators<A> {
         }
     }
 
+    /// Adds the next heap as a generator that changes no element.
+    pub fn add_free(&mut self) -> Result<(), Halt> {
+        let heap = self.own.len().saturating_add(1);
+        self.own.push(self.heaps.len())?;
+        self.kept.push(true)?;
+        self.heaps.push(heap)?;
+        self.elements.push(0)?;
+        Ok(())
+    }
+
     /// Makes the heap n a generator.
     pub fn promote(&mut self, n: usize) -> Result<(), Halt> {
         put(&mut self.own, n.wrapping_sub(1), self.heaps.len());

@@ -1,6 +1,6 @@
 //! Two heaps that run against each other, and what is learned of all beside them.
 use crate::actions::{Actions, actions_behind};
-use crate::boxes::score_of;
+use crate::boxes::{Score, score_of};
 use crate::folds::Fold;
 use crate::generators::{Generators, cycle_of};
 use crate::learning::{Bounds, Guess, learned};
@@ -13,6 +13,9 @@ use std::alloc::Allocator;
 /// How many pairs are looked for, each in tables that are right for heavier positions.
 const MOST_PAIRS: usize = 8;
 
+/// How many pairs more are tried that tables of the wrong quotient show less clearly.
+const LAST_PAIRS: usize = 1;
+
 /// How far the monoid of all letters is learned between two looks.
 const FIRST_BOUNDS: Bounds = Bounds {
     rounds: 6,
@@ -20,16 +23,18 @@ const FIRST_BOUNDS: Bounds = Bounds {
 };
 
 /// In how many rounds a monoid is learned beside a pair, and to how many elements and places: so many,
-/// and more of them for each element of the wrong quotient.
+/// and more of them for each element of the wrong quotient, up to a bound.
 const PAIR_ROUNDS: usize = 200;
 
 const FEWEST_STATES: usize = 10_000;
 
-const STATES_EACH: usize = 250;
+const STATES_EACH: usize = 620;
+
+const MOST_STATES: usize = 410_000;
 
 /// Up to how many letters, squared, times elements all pairs are looked at, and else those with the
 /// last heap alone.
-const MOST_SCORES: usize = 200_000;
+const MOST_SCORES: usize = 100_000;
 
 /// The corner of a first fold, and the most by which its counts are lowered.
 const CORNER: usize = 2;
@@ -82,6 +87,7 @@ pub struct RunningPairs<'a, A: Allocator> {
     alloc: A,
     code: &'a Code,
     quotient: &'a HeapQuotient<A>,
+    last: usize,
     /// The letters of all heaps, and what is learned of them without a pair.
     letters: Letters<A>,
     actions: Actions<A>,
@@ -111,14 +117,18 @@ fn common(one: usize, other: usize) -> usize {
     NONE
 }
 
-/// The letters of all heaps.
+/// The letters of the heaps up to the last one. Those that the quotient lacks change no element.
 fn letters_of<A: Allocator + Copy>(
     alloc: A,
     code: &Code,
     quotient: &HeapQuotient<A>,
+    last: usize,
     work: &mut Work,
 ) -> Result<Letters<A>, Halt> {
-    let generators = Generators::new(alloc, quotient, work)?;
+    let mut generators = Generators::new(alloc, quotient, work)?;
+    for _ in quotient.heaps().len()..last {
+        generators.add_free()?;
+    }
     Letters::new(alloc, code, generators, work)
 }
 
@@ -140,19 +150,21 @@ fn actions_of<A: Allocator + Copy>(
 }
 
 impl<'a, A: Allocator + Copy> RunningPairs<'a, A> {
-    /// Of a wrong quotient of a code's heaps.
+    /// Of a wrong quotient of a code's heaps up to the last one, or of one that lacks the last ones.
     pub fn new(
         alloc: A,
         code: &'a Code,
         quotient: &'a HeapQuotient<A>,
+        last: usize,
         work: &mut Work,
     ) -> Result<RunningPairs<'a, A>, Halt> {
-        let letters = letters_of(alloc, code, quotient, work)?;
+        let letters = letters_of(alloc, code, quotient, last, work)?;
         let actions = actions_of(alloc, quotient, &letters, work)?;
         Ok(RunningPairs {
             alloc,
             code,
             quotient,
+            last,
             letters,
             actions,
             looks: 0,
@@ -184,7 +196,7 @@ impl<'a, A: Allocator + Copy> RunningPairs<'a, A> {
         has_all: bool,
         work: &mut Work,
     ) -> Result<Option<RunningPair<A>>, Halt> {
-        let mut letters = letters_of(self.alloc, self.code, self.quotient, work)?;
+        let mut letters = letters_of(self.alloc, self.code, self.quotient, self.last, work)?;
         letters.falling = letters.letter(pair.falling);
         letters.rising = letters.letter(pair.rising);
         if letters.falling == NONE || letters.rising == NONE {
@@ -201,7 +213,7 @@ impl<'a, A: Allocator + Copy> RunningPairs<'a, A> {
         let more = self.quotient.order().saturating_mul(STATES_EACH);
         let bounds = Bounds {
             rounds: PAIR_ROUNDS,
-            states: more.saturating_add(FEWEST_STATES),
+            states: more.saturating_add(FEWEST_STATES).min(MOST_STATES),
         };
         let (guess, _) = learned(self.alloc, &mut letters, first, bounds, work)?;
         if !guess.fits() {
@@ -223,7 +235,7 @@ impl<'a, A: Allocator + Copy> RunningPairs<'a, A> {
         false
     }
 
-    /// The pair on whose counts outcomes depend most, among those that weren't tried. Outcomes may hardly
+    /// The pair on each of whose counts outcomes depend most, among those that weren't tried. Outcomes may hardly
     /// change with both counts, where it is asked.
     fn best_pair(&mut self, is_strict: bool, work: &mut Work) -> Result<Option<Pair>, Halt> {
         let count = self.letters.count();
@@ -232,7 +244,11 @@ impl<'a, A: Allocator + Copy> RunningPairs<'a, A> {
             .saturating_mul(self.actions.count());
         let last = self.letters.generators.last();
         let mut best: Option<Pair> = None;
-        let mut most = 0usize;
+        let mut most = Score {
+            both: 1,
+            down: 0,
+            up: 0,
+        };
         for rising in 0..count {
             if size > MOST_SCORES && self.letters.heap(rising) != last {
                 continue;
@@ -244,9 +260,9 @@ impl<'a, A: Allocator + Copy> RunningPairs<'a, A> {
                 };
                 let letters = &mut self.letters;
                 let score = score_of(self.alloc, letters, &self.actions, falling, rising, work)?;
-                let is_right = !is_strict || score.is_clear();
-                if is_right && score.depth() > most && !self.was_tried(pair) {
-                    most = score.depth();
+                let is_right = score.depth() != 0 && (!is_strict || score.is_clear());
+                if is_right && score.is_better(most) && !self.was_tried(pair) {
+                    most = score;
                     best = Some(pair);
                 }
             }
@@ -270,13 +286,13 @@ impl<'a, A: Allocator + Copy> RunningPairs<'a, A> {
 
     /// Goes back to the wrong quotient.
     fn go_back(&mut self, work: &mut Work) -> Result<(), Halt> {
-        self.letters = letters_of(self.alloc, self.code, self.quotient, work)?;
+        self.letters = letters_of(self.alloc, self.code, self.quotient, self.last, work)?;
         self.actions = actions_of(self.alloc, self.quotient, &self.letters, work)?;
         Ok(())
     }
 
-    /// The next pair: one that tables show, and in the end the one that those of the wrong quotient
-    /// show best.
+    /// The next pair: one that tables show, and in the end those that tables of the wrong
+    /// quotient show best.
     fn next_pair(&mut self, work: &mut Work) -> Result<Option<Pair>, Halt> {
         for _ in self.looks..MOST_PAIRS {
             if self.looks != 0 {
@@ -292,17 +308,19 @@ impl<'a, A: Allocator + Copy> RunningPairs<'a, A> {
                 return Ok(found);
             }
         }
-        if self.looks > MOST_PAIRS {
+        if self.looks > MOST_PAIRS + LAST_PAIRS {
             return Ok(None);
         }
-        self.looks = MOST_PAIRS + 1;
-        self.go_back(work)?;
+        if self.looks == MOST_PAIRS {
+            self.go_back(work)?;
+        }
+        self.looks = self.looks.saturating_add(1);
         self.best_pair(false, work)
     }
 
     /// The next pair with what is learned beside it, or nothing where there are no more.
     pub fn go_on(&mut self, work: &mut Work) -> Result<Option<RunningPair<A>>, Halt> {
-        for _ in 0..MOST_PAIRS + 2 {
+        for _ in 0..(MOST_PAIRS + LAST_PAIRS) * 2 {
             if let Some(pair) = self.waiting.take() {
                 let found = self.learn(pair, true, work)?;
                 if found.is_some() {
