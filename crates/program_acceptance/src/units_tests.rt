@@ -3,14 +3,9 @@ use crate::certificates::{
     OF_0_3, OF_0_33, OF_0_75, OF_0_B, PART_OF_0_3, PART_OF_0_75, RIGHT_UP_TO_8,
 };
 use crate::comparing::compare;
-use allocation::SmallAllocator;
+use crate::let_go;
 use checker::{Job, Progress};
 use std::alloc::Global;
-
-/// Lets a job go. What a stage of a check holds fits in memory: that is proved here once.
-fn let_go<A: SmallAllocator + Copy>(job: Job<A>) {
-    drop(job)
-}
 
 /// The number of a job that has not ended.
 const GOING: u8 = 255;
