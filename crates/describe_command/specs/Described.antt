@@ -16,6 +16,8 @@ use Rattle.relations.specs.Met.{bound_of}
 use Rattle.relations.specs.declared.fault.MetBound.{MetBound}
 use Rattle.relations.specs.declared.fault.Bound.{Bound}
 use Rattle.relations.specs.declared.fault.Bound.TheVariants as bound
+use Rattle.relations.specs.declared.fault.Undescribed.{Undescribed}
+use Rattle.relations.specs.declared.fault.Undescribed.TheVariants.{Bound as Met, Memory as NoMemory}
 use Rattle.requests.specs.declared.plans.Output.{Output}
 use Rattle.requests.specs.declared.plans.Output.TheVariants.{Description, Latex, Json, Relations, Singular, Gap}
 
@@ -29,6 +31,11 @@ abbrev pub bound_line : Bound → List ℕ
 bound_line bound.Letters = codes "not described within 26 generators\n"
 bound_line bound.Exponents = codes "not described within exponents of 64\n"
 bound_line bound.Unshown = codes "not described within 512 rules\n"
+
+-- the line of what a search for relations tells; want of memory has none here
+abbrev pub fault_line : Undescribed → List ℕ
+fault_line (Met met) = bound_line (bound_of met)
+fault_line NoMemory = codes ""
 
 -- the line of a bound that a search for relations met
 abbrev pub IsBoundLine : List ℕ → Type 0

@@ -2,7 +2,7 @@
 ghost use Rattle.std.specs.Prelude.{◌≡◌, ◌++◌, IfOk, IfErr, None, true, false, codes, is_none, is_some, option_map};
 ghost use Rattle.std.specs.String.{string_bytes};
 ghost use Rattle.check_command.specs.Checks.{AreGiven, IsGivenCause, failed};
-ghost use Rattle.describe_command.specs.Described.{Describes, DescribesFound, DescribesIn, DescribesFor, DescribesQuotient, IsBoundLine, bound_line, note_line};
+ghost use Rattle.describe_command.specs.Described.{Describes, DescribesFound, DescribesIn, DescribesFor, DescribesQuotient, IsBoundLine, bound_line, fault_line, note_line};
 ghost use Rattle.requests.specs.declared.plans.Output.TheVariants.{Relations};
 
 use allocation::Memory;
@@ -48,8 +48,9 @@ fn bound_line(bound: Bound) -> &'static str
 
 /// The line of the bound that the search for relations met.
 fn undescribed(alloc: Global, fault: Undescribed) -> Result<Noted, Memory>
-    ensures { IfOk result (λ n. IsBoundLine n.said.text.items × (n.said.succeeds ≡ false)
+    ensures bound { IfOk result (λ n. IsBoundLine n.said.text.items × (n.said.succeeds ≡ false)
         × (option_map (λ t. t.now) n.note ≡ None)) }
+    ensures line { IfOk result (λ n. n.said.text.items ≡ fault_line fault) }
 {
     match fault {
         Undescribed::Bound(met) => refuse(alloc, bound_line(met.bound())),
