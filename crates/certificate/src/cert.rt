@@ -13,8 +13,8 @@ use pretending::Phi;
 use std::alloc::{Allocator, Global};
 use std::marker::Model;
 
-/// A certificate that a text can say: each number lies in its range, and each line has as many as it
-/// should.
+/// A certificate that a text can say: each number lies in its range, and each list has as many as it
+/// should, also those that a text in the third format leaves out.
 #[derive(Drop)]
 pub struct Cert<A: Allocator = Global> {
     fields: Fields<A>,
