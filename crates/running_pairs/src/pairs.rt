@@ -23,7 +23,8 @@ const FIRST_BOUNDS: Bounds = Bounds {
 };
 
 /// In how many rounds a monoid is learned beside a pair, and to how many elements and places: so many,
-/// and more of them for each element of the wrong quotient, up to a bound.
+/// and more of them for each element of the wrong quotient, up to a bound. They are twice as many if the
+/// quotient lacks the last heap.
 const PAIR_ROUNDS: usize = 200;
 
 const FEWEST_STATES: usize = 10_000;
@@ -188,6 +189,22 @@ impl<'a, A: Allocator + Copy> RunningPairs<'a, A> {
         Ok(Some(Fold::cornered(CORNER, step)))
     }
 
+    /// How far a monoid is learned beside a pair. Where the quotient lacks the last heap, there is less to
+    /// begin with, and more to learn.
+    fn bounds(&self) -> Bounds {
+        let more = self.quotient.order().saturating_mul(STATES_EACH);
+        let states = more.saturating_add(FEWEST_STATES).min(MOST_STATES);
+        let is_whole = self.quotient.heaps().len() >= self.last;
+        Bounds {
+            rounds: PAIR_ROUNDS,
+            states: if is_whole {
+                states
+            } else {
+                states.saturating_mul(2)
+            },
+        }
+    }
+
     /// What is learned beside a pair, of all heaps or of those that are needed, if no step fails in the
     /// end.
     fn learn(
@@ -210,12 +227,7 @@ impl<'a, A: Allocator + Copy> RunningPairs<'a, A> {
         };
         let actions = actions_of(self.alloc, self.quotient, &letters, work)?;
         let first = Guess::new(self.alloc, &letters, actions, fold, work)?;
-        let more = self.quotient.order().saturating_mul(STATES_EACH);
-        let bounds = Bounds {
-            rounds: PAIR_ROUNDS,
-            states: more.saturating_add(FEWEST_STATES).min(MOST_STATES),
-        };
-        let (guess, _) = learned(self.alloc, &mut letters, first, bounds, work)?;
+        let (guess, _) = learned(self.alloc, &mut letters, first, self.bounds(), work)?;
         if !guess.fits() {
             return Ok(None);
         }
