@@ -1,5 +1,6 @@
 -- When a quotient is tame, and when it isn't.
-use Rattle.std.proofs.Common.{◌≡◌, ◌≢◌, ℕ, ◌+◌, ◌^◌, ◌<◌, ◌≤◌, Option, Some, None, arith}
+use Rattle.std.proofs.Common.{◌≡◌, ◌≢◌, ◌∙◌, ℕ, ◌+◌, ◌^◌, ◌<◌, ◌≤◌, Option, Some, None, false, arith}
+use Rattle.std.specs.Option.{is_some}
 use Rattle.std.specs.Prelude.{◌==◌, IfSome, IfNone}
 use Rattle.std.proofs.Math.Nat.{pow-le-pow_right}
 use Rattle.misere_theory.specs.Certificates.{Certificate, claim_of}
@@ -36,3 +37,11 @@ pub by-order : (c : Certificate) (a e : ℕ) (found : Option ℕ) → c.order �
     → TellsTame c found
 by-order c a e (Some n) ne by some none = Next n some.0 some.1 a e by
 by-order c a e None ne by some none = none-tame c ne none
+
+-- an order that no tame quotient has
+pub wild-by-order : (c : Certificate) (order : ℕ) (found : Option ℕ) → order ≡ c.order → order ≢ 2
+    → is_some found ≡ false → IfNone found ((n : ℕ) → 2 ≤ n → order ≢ 2 ^ n + 2)
+    → (n : ℕ) → IsTame c n → ⊥
+wild-by-order c order None same ne absent other =
+    none-tame c (λ e. ne (same ∙ e)) (λ n le e. other n le (same ∙ e))
+wild-by-order c order (Some k) same ne absent other = cc

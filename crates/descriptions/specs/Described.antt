@@ -1,5 +1,5 @@
 -- When a text describes the quotient of a certificate.
-use Rattle.std.specs.Prelude.{◌≡◌, ◌≢◌, ℕ, ◌<◌, ◌≤◌, List, ◌++◌, Option, Some, None, All, codes, length, vec_len}
+use Rattle.std.specs.Prelude.{◌≡◌, ◌≢◌, ℕ, ◌<◌, ◌≤◌, List, ◌++◌, Option, Some, None, All, Contains, Vec, codes, length, vec_len}
 use Rattle.std.specs.List.{AllZip}
 use Rattle.misere_theory.specs.Certificates.{Certificate, IsHeapOf, phi_at}
 use Rattle.certificate.specs.Fields.{grid_of}
@@ -31,6 +31,17 @@ pub record IsFirstHeap (c : Certificate) (element heap : ℕ) : Type 0 where
   pub counts : IsHeapOf c heap
   pub is : phi_at c heap ≡ element
   pub first : (k : ℕ) → 1 ≤ k → k < heap → phi_at c k ≢ element
+
+-- the first heap that has the element, or that none has it
+abbrev pub TellsFirstHeap : Certificate → ℕ → Option ℕ → Type 0
+TellsFirstHeap c element (Some heap) = IsFirstHeap c element heap
+TellsFirstHeap c element None = Contains c.phi element → ⊥
+
+-- the first heaps that have the elements, or that not all of them are elements of heaps
+abbrev pub TellsFirstHeaps : {A : Type 0} → Certificate → List ℕ → Option (Vec ℕ A) → Type 0
+TellsFirstHeaps c elements (Some heaps) =
+    AllZip (IsFirstHeap c) elements heaps.items × (vec_len heaps ≡ length elements)
+TellsFirstHeaps c elements None = All (Contains c.phi) elements → ⊥
 
 -- tame, with this number, or for no number
 abbrev pub TellsTame : Certificate → Option ℕ → Type 0

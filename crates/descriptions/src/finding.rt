@@ -1,9 +1,8 @@
 //! What is printed of a quotient.
-ghost use Rattle.std.specs.Prelude.{◌≡◌, ◌<◌, IfOk, All, Contains, length, vec_len};
-ghost use Rattle.std.specs.List.{AllZip};
+ghost use Rattle.std.specs.Prelude.{◌≡◌, ◌<◌, IfOk, All, Contains, vec_len};
 ghost use Rattle.certificate.specs.Fields.{grid_of};
 ghost use Rattle.relations.specs.Printed.{ArePrintable};
-ghost use Rattle.descriptions.specs.Described.{AreFindings, Describes, IsFirstHeap};
+ghost use Rattle.descriptions.specs.Described.{AreFindings, Describes, TellsFirstHeap, TellsFirstHeaps};
 
 use crate::choosing::{Part, those};
 use crate::invariants::lowest;
@@ -40,32 +39,35 @@ pub fn table_of(alloc: Global, certified: &Certified) -> Result<Table, Memory>
     }
 }
 
-/// The first heap that has the element, which some heap has.
-fn first_heap(certified: &Certified, element: u16) -> u64
-    requires { Contains certified.now.phi element }
-    ensures { IsFirstHeap certified.now element result }
+/// The first heap that has the element, if a heap has it.
+fn first_heap(certified: &Certified, element: u16) -> Option<u64>
+    ensures { TellsFirstHeap certified.now element result }
 {
     let cert = certified.cert();
     for heap in 1..cert.start() + cert.period() {
         if certified.element(heap) == element {
-            return heap;
+            return Some(heap);
         }
     }
-    unreachable!()
+    None
 }
 
-/// The first heaps that have the elements.
-fn first_heaps(alloc: Global, certified: &Certified, elements: &[u16]) -> Result<Vec<u64>, Memory>
-    requires { All (Contains certified.now.phi) elements.now }
-    ensures heaps { IfOk result (λ r. AllZip (IsFirstHeap certified.now) elements.now r.items) }
-    ensures long { IfOk result (λ r. vec_len r ≡ length elements.now) }
+/// The first heaps that have the elements, if heaps have all of them.
+fn first_heaps(
+    alloc: Global,
+    certified: &Certified,
+    elements: &[u16],
+) -> Result<Option<Vec<u64>>, Memory>
+    ensures { IfOk result (TellsFirstHeaps certified.now elements.now) }
 {
     let mut heaps = Vec::new(alloc);
     for element in elements {
-        let heap = first_heap(certified, *element);
+        let Some(heap) = first_heap(certified, *element) else {
+            return Ok(None);
+        };
         heaps.push(heap)?;
     }
-    Ok(heaps)
+    Ok(Some(heaps))
 }
 
 /// Relations, words and a list of all elements, with generators out of those of the heaps.
@@ -95,7 +97,9 @@ pub fn find(alloc: Global, certified: &Certified, form: Form) -> Result<Findings
 {
     let table = table_of(alloc, certified)?;
     let description = describe_table(alloc, certified, &table, form)?;
-    let heaps = first_heaps(alloc, certified, &description.elements)?;
+    let Some(heaps) = first_heaps(alloc, certified, &description.elements)? else {
+        unreachable!()
+    };
     let low = lowest(&table);
     let listing = description.listing.as_slice();
     let portion = those(alloc, certified, &table, low, Part::Portion, listing)?;

@@ -6,6 +6,7 @@ mod arrays;
 mod choosing;
 mod describing;
 mod finding;
+mod indices;
 mod invariants;
 mod laws;
 mod lines;
@@ -15,6 +16,7 @@ mod systems;
 mod tame;
 
 pub use describing::{description_text, ideal_text};
+pub use indices::tame_index;
 pub use laws::tame_quotients_are_unique;
 pub use presenting::{PresentBound, RelationsWord, relations_word};
 pub use relations::{Bound, Form, MetBound, Notation, Undescribed};

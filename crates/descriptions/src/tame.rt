@@ -94,7 +94,7 @@ fn has_group(certified: &Certified, table: &Table) -> bool
 }
 
 /// The number n from 2 on with 2^n + 2 elements.
-fn exponent(order: u16) -> Option<u16>
+pub fn exponent(order: u16) -> Option<u16>
     requires { order ≤ LARGEST_ORDER }
     ensures some { IfSome result (λ n. (2 ≤ n) × (order ≡ 2 ^ n + 2)) }
     ensures none { IfNone result ((n : ℕ) → 2 ≤ n → order ≢ 2 ^ n + 2) }

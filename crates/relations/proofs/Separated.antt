@@ -5,7 +5,6 @@ use Rattle.misere_theory.specs.Quotients.{Monoid}
 use Rattle.monoid_table.specs.Grids.{Grid, times_in}
 use Rattle.presentations.specs.declared.read.Relation.{Relation}
 use Rattle.presentations.specs.Tables.{product_at}
-use Rattle.presentations.proofs.CongruenceLaws.{Alike}
 use Rattle.relations.specs.Presented.{vector_of, pairs_of, AreRelatedWords, HoldsIn}
 use Rattle.relations.proofs.Shown.{pairs-hold}
 use Rattle.relations.proofs.WordLaws.{value-alike}

@@ -7,7 +7,7 @@ ghost use Rattle.presentations.specs.Words.{occurs, letters_of};
 ghost use Rattle.presentations.specs.Tables.{product_at};
 ghost use Rattle.relations.specs.Presented.{first_letters, vector_of, HoldsIn, AreNamed, StepHolds, ArePresentation};
 
-use crate::rewriting::{completed, is_same, reduced};
+use crate::rewriting::{Rules, completed, is_same, reduced};
 use allocation::Memory;
 use monoid_table::{Table, is_monoid};
 use presentations::{LETTERS, Relation, Word};
@@ -123,7 +123,7 @@ pub fn lengthened(letters: usize, word: &Word, i: usize) -> Option<Word>
 fn step_holds<A: Allocator>(
     table: &Table<A>,
     elements: &[u16],
-    rules: &[Relation],
+    rules: &Rules<A>,
     words: &[Word],
     x: u16,
     i: usize,
@@ -134,7 +134,7 @@ fn step_holds<A: Allocator>(
     requires words { length words.now ≡ table.now.order }
     requires x_in { x < table.now.order }
     requires i_in { i < length elements.now }
-    ensures { IsTrue result → StepHolds table.now elements.now rules.now words.now x i }
+    ensures { IsTrue result → StepHolds table.now elements.now rules.now.relations.items words.now x i }
 {
     let letters = elements.len();
     let Some(more) = lengthened(letters, &words[x as usize], i) else {
@@ -150,7 +150,7 @@ fn step_holds<A: Allocator>(
 fn steps_hold_at<A: Allocator>(
     table: &Table<A>,
     elements: &[u16],
-    rules: &[Relation],
+    rules: &Rules<A>,
     words: &[Word],
     x: u16,
     steps: u32,
@@ -160,7 +160,7 @@ fn steps_hold_at<A: Allocator>(
     requires words { length words.now ≡ table.now.order }
     requires x_in { x < table.now.order }
     ensures { IsTrue result → (i : ℕ) → i < length elements.now
-        → StepHolds table.now elements.now rules.now words.now x i }
+        → StepHolds table.now elements.now rules.now.relations.items words.now x i }
 {
     for i in 0..elements.len() {
         if !step_holds(table, elements, rules, words, x, i, steps) {
@@ -174,7 +174,7 @@ fn steps_hold_at<A: Allocator>(
 fn steps_hold<A: Allocator>(
     table: &Table<A>,
     elements: &[u16],
-    rules: &[Relation],
+    rules: &Rules<A>,
     words: &[Word],
     steps: u32,
 ) -> bool
@@ -182,7 +182,7 @@ fn steps_hold<A: Allocator>(
     requires letters { length elements.now ≤ LETTERS }
     requires words { length words.now ≡ table.now.order }
     ensures { IsTrue result → (x i : ℕ) → x < table.now.order → i < length elements.now
-        → StepHolds table.now elements.now rules.now words.now x i }
+        → StepHolds table.now elements.now rules.now.relations.items words.now x i }
 {
     for x in 0..table.order() {
         if !steps_hold_at(table, elements, rules, words, x, steps) {
@@ -198,7 +198,7 @@ fn steps_hold<A: Allocator>(
 ///
 /// False says that it isn't shown: a relation doesn't hold, or relations are missing, or the work
 /// isn't enough.
-pub fn is_shown<A: Allocator>(
+pub fn is_shown<A: Allocator + Copy>(
     alloc: A,
     table: &Table<A>,
     elements: &[u16],
@@ -225,6 +225,6 @@ pub fn is_shown<A: Allocator>(
         return Ok(false);
     }
     let rules = completed(alloc, letters, relations, most, steps)?;
-    let shown = steps_hold(table, elements, rules.as_slice(), words, steps);
+    let shown = steps_hold(table, elements, &rules, words, steps);
     Ok(shown)
 }

@@ -23,5 +23,5 @@ pub use fault::{Bound, MetBound, Undescribed};
 pub use finding::{Description, Form, described};
 pub use laws::{texts_spell, words_present};
 pub use powers::presentable;
-pub use rewriting::{completed, is_same, reduced};
+pub use rewriting::{Rules, completed, is_same, reduced};
 pub use text::{Notation, factor_text, relation_text, relations_text, word_text, words_text};

@@ -1,12 +1,65 @@
 //! Words rewritten by rules: relations used from their left word to their right one.
-ghost use Rattle.std.specs.Prelude.{◌≡◌, ◌<◌, ◌≤◌, ◌↔◌, ◌⊎◌, ℕ, IsTrue, IfSome, IfOk, All, length, slice_index, vec_len};
+ghost use Rattle.std.specs.Prelude.{◌≡◌, ◌<◌, ◌≤◌, ◌↔◌, ◌⊎◌, ◌++◌, ◌∷◌, [], ℕ, IsTrue, IfSome, IfOk, All, length, slice_index, vec_len};
 ghost use Rattle.presentations.specs.declared.TheConstants.{LETTERS};
 ghost use Rattle.relations.specs.Bases.{Precedes};
 ghost use Rattle.relations.specs.Presented.{AreRelatedWords, IsRewritten};
 
 use allocation::Memory;
-use presentations::{Relation, Word};
-use std::alloc::Allocator;
+use presentations::{LETTERS, Relation, Word};
+use std::alloc::{Allocator, Global};
+
+/// The letters that stand in the word, a bit for each.
+fn letters_in(word: &Word) -> u32 {
+    let mut letters = 0u32;
+    for i in 0..LETTERS {
+        if word[i] > 0 {
+            letters |= 1 << i;
+        }
+    }
+    letters
+}
+
+/// Rules, and which letters stand in the left word of each: by these most rules are passed over.
+#[derive(Drop)]
+pub struct Rules<A: Allocator = Global> {
+    pub relations: Vec<Relation, A>,
+    letters: Vec<u32, A>,
+}
+
+impl<A: Allocator> Rules<A> {
+    /// Adds a rule.
+    pub(crate) fn push(&mut self, rule: Relation) -> Result<(), Memory>
+        ensures { IfOk result
+            (λ _. self.new.relations.items ≡ self.old.relations.items ++ rule ∷ []) }
+    {
+        self.relations.push(rule)?;
+        self.letters.push(letters_in(&rule.left))?;
+        Ok(())
+    }
+
+    /// Whether the left word of rule `k` is in the word, in which these letters don't stand.
+    fn fits(&self, letters: usize, k: usize, lacking: u32, word: &Word) -> bool
+        requires letters { letters ≤ LETTERS }
+        requires k_in { k < vec_len self.now.relations }
+    {
+        if k < self.letters.len() && self.letters[k] & lacking != 0 {
+            return false;
+        }
+        fits(letters, &self.relations[k].left, word)
+    }
+}
+
+impl<A: Allocator + Copy> Rules<A> {
+    /// No rules.
+    pub(crate) fn new(alloc: A) -> Rules<A>
+        ensures { result.relations.items ≡ [] }
+    {
+        Rules {
+            relations: Vec::new(alloc),
+            letters: Vec::new(alloc),
+        }
+    }
+}
 
 /// The word with the rule's right word in place of its left one, where the left one is in it and no
 /// exponent gets above `u8::MAX`.
@@ -39,15 +92,16 @@ pub fn fits(letters: usize, left: &Word, word: &Word) -> bool
 }
 
 /// The word rewritten once, by the first rule that can.
-fn step(letters: usize, rules: &[Relation], word: &Word) -> Option<Word>
+fn step<A: Allocator>(letters: usize, rules: &Rules<A>, word: &Word) -> Option<Word>
     requires { letters ≤ LETTERS }
-    ensures { IfSome result (AreRelatedWords letters rules.now word.now) }
+    ensures { IfSome result (AreRelatedWords letters rules.now.relations.items word.now) }
 {
-    for rule in rules {
-        if !fits(letters, &rule.left, word) {
+    let lacking = !letters_in(word);
+    for k in 0..rules.relations.len() {
+        if !rules.fits(letters, k, lacking, word) {
             continue;
         }
-        if let Some(changed) = rewritten(letters, rule, word) {
+        if let Some(changed) = rewritten(letters, &rules.relations[k], word) {
             return Some(changed);
         }
     }
@@ -55,9 +109,9 @@ fn step(letters: usize, rules: &[Relation], word: &Word) -> Option<Word>
 }
 
 /// The word rewritten until no rule can, or `steps` times.
-pub fn reduced(letters: usize, rules: &[Relation], word: &Word, steps: u32) -> Word
+pub fn reduced<A: Allocator>(letters: usize, rules: &Rules<A>, word: &Word, steps: u32) -> Word
     requires { letters ≤ LETTERS }
-    ensures { AreRelatedWords letters rules.now word.now result }
+    ensures { AreRelatedWords letters rules.now.relations.items word.now result }
 {
     let mut reduced = *word;
     for _step in 0..steps {
@@ -152,13 +206,20 @@ fn is_apart(letters: usize, v: &Word, w: &Word) -> bool
 
 /// The rule that two rules give where both can rewrite one word: between what they make of the least
 /// such word, each rewritten as far as it goes.
-fn overlap(letters: usize, rules: &[Relation], i: usize, j: usize, steps: u32) -> Option<Relation>
+fn overlap<A: Allocator>(
+    letters: usize,
+    rules: &Rules<A>,
+    i: usize,
+    j: usize,
+    steps: u32,
+) -> Option<Relation>
     requires letters { letters ≤ LETTERS }
-    requires i_in { i < length rules.now }
-    requires j_in { j < length rules.now }
-    ensures { IfSome result (λ r. AreRelatedWords letters rules.now r.left r.right) }
+    requires i_in { i < vec_len rules.now.relations }
+    requires j_in { j < vec_len rules.now.relations }
+    ensures { IfSome result
+        (λ r. AreRelatedWords letters rules.now.relations.items r.left r.right) }
 {
-    let (one, other) = (&rules[i], &rules[j]);
+    let (one, other) = (&rules.relations[i], &rules.relations[j]);
     if is_apart(letters, &one.left, &other.left) || is_needless(letters, rules, i, j) {
         return None;
     }
@@ -177,18 +238,19 @@ fn overlap(letters: usize, rules: &[Relation], i: usize, j: usize, steps: u32) -
 /// has a smaller such word with `j`, or the same one and a smaller number: then what `i` and `j` give
 /// follows from what the two give with that rule. Gebauer and Möller, On an installation of
 /// Buchberger's algorithm.
-fn is_needless(letters: usize, rules: &[Relation], i: usize, j: usize) -> bool
+fn is_needless<A: Allocator>(letters: usize, rules: &Rules<A>, i: usize, j: usize) -> bool
     requires letters { letters ≤ LETTERS }
-    requires i_in { i < length rules.now }
-    requires j_in { j < length rules.now }
+    requires i_in { i < vec_len rules.now.relations }
+    requires j_in { j < vec_len rules.now.relations }
 {
-    let last = &rules[j].left;
-    let both = join(letters, &rules[i].left, last);
+    let last = &rules.relations[j].left;
+    let both = join(letters, &rules.relations[i].left, last);
+    let lacking = !letters_in(&both);
     for k in 0..j {
-        let left = &rules[k].left;
-        if k == i || !fits(letters, left, &both) {
+        if k == i || !rules.fits(letters, k, lacking, &both) {
             continue;
         }
+        let left = &rules.relations[k].left;
         if k < i || !is_same(letters, &join(letters, left, last), &both) {
             return true;
         }
@@ -199,17 +261,18 @@ fn is_needless(letters: usize, rules: &[Relation], i: usize, j: usize) -> bool
 /// Adds the rules that rule `j` gives with those before it.
 pub fn learn<A: Allocator>(
     letters: usize,
-    rules: &mut Vec<Relation, A>,
+    rules: &mut Rules<A>,
     j: usize,
     steps: u32,
 ) -> Result<(), Memory>
     requires letters { letters ≤ LETTERS }
-    requires j_in { j < vec_len rules.old }
+    requires j_in { j < vec_len rules.old.relations }
     ensures { IfOk result
-        (λ _. All (λ r. AreRelatedWords letters rules.old.items r.left r.right) rules.new.items) }
+        (λ _. All (λ r. AreRelatedWords letters rules.old.relations.items r.left r.right)
+        rules.new.relations.items) }
 {
     for i in 0..j {
-        if let Some(rule) = overlap(letters, rules.as_slice(), i, j, steps) {
+        if let Some(rule) = overlap(letters, rules, i, j, steps) {
             rules.push(rule)?;
         }
     }
@@ -219,23 +282,23 @@ pub fn learn<A: Allocator>(
 /// The relations as rules, and the rules that these give by twos, until there is none left or `most`
 /// of them were looked at: Knuth and Bendix' completion, which for commutative monoids is
 /// Buchberger's algorithm. Each rule is one that the relations give.
-pub fn completed<A: Allocator>(
+pub fn completed<A: Allocator + Copy>(
     alloc: A,
     letters: usize,
     relations: &[Relation],
     most: usize,
     steps: u32,
-) -> Result<Vec<Relation, A>, Memory>
+) -> Result<Rules<A>, Memory>
     requires { letters ≤ LETTERS }
-    ensures { IfOk result
-        (λ rules. All (λ r. AreRelatedWords letters relations.now r.left r.right) rules.items) }
+    ensures { IfOk result (λ rules. All (λ r. AreRelatedWords letters relations.now r.left r.right)
+        rules.relations.items) }
 {
-    let mut rules = Vec::new(alloc);
+    let mut rules = Rules::new(alloc);
     for relation in relations {
         rules.push(oriented(letters, &relation.left, &relation.right))?;
     }
     for j in 0..most {
-        if j >= rules.len() {
+        if j >= rules.relations.len() {
             return Ok(rules);
         }
         learn(letters, &mut rules, j, steps)?;

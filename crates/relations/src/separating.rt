@@ -9,7 +9,7 @@ ghost use Rattle.relations.specs.Presented.{AreRelatedWords};
 use crate::checking::{hold, lengthened, value};
 use crate::finding::{MOST, STEPS};
 use crate::listing::{are_below, has_word};
-use crate::rewriting::{completed, fits, reduced, rewritten};
+use crate::rewriting::{Rules, completed, fits, reduced, rewritten};
 use allocation::Memory;
 use monoid_table::Table;
 use presentations::{LETTERS, Relation, Word};
@@ -138,7 +138,7 @@ struct Divisors<A: Allocator> {
 /// words. It is added if it isn't there and there is room.
 fn next_of<A: Allocator>(
     letters: usize,
-    rules: &[Relation],
+    rules: &Rules<A>,
     multiples: &[Word],
     word: &Word,
     i: usize,
@@ -164,7 +164,7 @@ fn next_of<A: Allocator>(
 /// Adds where the word leads with each letter once more.
 fn add_next<A: Allocator>(
     letters: usize,
-    rules: &[Relation],
+    rules: &Rules<A>,
     multiples: &[Word],
     word: &Word,
     words: &mut Vec<Word, A>,
@@ -183,7 +183,7 @@ fn add_next<A: Allocator>(
 fn divisors_of<A: Allocator + Copy>(
     alloc: A,
     letters: usize,
-    rules: &[Relation],
+    rules: &Rules<A>,
     multiples: &[Word],
 ) -> Result<Divisors<A>, Memory>
     requires { letters ≤ LETTERS }
@@ -310,7 +310,7 @@ struct Quotient<A: Allocator> {
 fn quotient_of<A: Allocator + Copy>(
     alloc: A,
     letters: usize,
-    rules: &[Relation],
+    rules: &Rules<A>,
     multiples: &[Word],
 ) -> Result<Option<Quotient<A>>, Memory>
     requires { letters ≤ LETTERS }
@@ -356,7 +356,7 @@ fn is_separated<A: Allocator + Copy>(
     alloc: A,
     letters: usize,
     others: &[Relation],
-    rules: &[Relation],
+    rules: &Rules<A>,
     relation: &Relation,
     word: &Word,
 ) -> Result<bool, Memory>
@@ -423,7 +423,7 @@ fn is_separated_by_cuts<A: Allocator + Copy>(
 {
     let all = with_cuts(alloc, letters, others, relation)?;
     let rules = completed(alloc, letters, all.as_slice(), MOST, STEPS)?;
-    match quotient_of(alloc, letters, rules.as_slice(), &[])? {
+    match quotient_of(alloc, letters, &rules, &[])? {
         Some(quotient) => Ok(separates(letters, &quotient, others, relation)),
         None => Ok(false),
     }
@@ -444,11 +444,10 @@ fn is_free<A: Allocator + Copy>(
     let others = all_but(alloc, relations, k)?;
     let others = others.as_slice();
     let rules = completed(alloc, letters, others, MOST, STEPS)?;
-    let rules = rules.as_slice();
-    if is_separated(alloc, letters, others, rules, relation, &relation.left)? {
+    if is_separated(alloc, letters, others, &rules, relation, &relation.left)? {
         return Ok(true);
     }
-    if is_separated(alloc, letters, others, rules, relation, &relation.right)? {
+    if is_separated(alloc, letters, others, &rules, relation, &relation.right)? {
         return Ok(true);
     }
     let separated = is_separated_by_cuts(alloc, letters, others, relation)?;

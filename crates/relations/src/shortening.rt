@@ -4,14 +4,14 @@ ghost use Rattle.presentations.specs.declared.TheConstants.{LETTERS};
 
 use crate::finding::{FEW, MOST, STEPS};
 use crate::least::last_letter;
-use crate::rewriting::{completed, is_same, learn, oriented, reduced};
+use crate::rewriting::{Rules, completed, is_same, learn, oriented, reduced};
 use allocation::Memory;
 use presentations::{LETTERS, Relation};
 use std::alloc::Allocator;
 use std::cmp::Reverse;
 
 /// Whether the rules lead both words of the relation to one.
-fn is_given(letters: usize, rules: &[Relation], relation: &Relation) -> bool
+fn is_given<A: Allocator>(letters: usize, rules: &Rules<A>, relation: &Relation) -> bool
     requires { letters ≤ LETTERS }
 {
     let left = reduced(letters, rules, &relation.left, STEPS);
@@ -20,15 +20,11 @@ fn is_given(letters: usize, rules: &[Relation], relation: &Relation) -> bool
 }
 
 /// Looks at the rules from number `from` on for more, and answers how many were looked at.
-fn close<A: Allocator>(
-    letters: usize,
-    rules: &mut Vec<Relation, A>,
-    from: usize,
-) -> Result<usize, Memory>
+fn close<A: Allocator>(letters: usize, rules: &mut Rules<A>, from: usize) -> Result<usize, Memory>
     requires { letters ≤ LETTERS }
 {
     for j in from..MOST {
-        if j >= rules.len() {
+        if j >= rules.relations.len() {
             return Ok(j);
         }
         learn(letters, rules, j, STEPS)?;
@@ -45,10 +41,10 @@ pub fn independent<A: Allocator + Copy>(
     requires { letters ≤ LETTERS }
 {
     let mut kept: Vec<Relation, A> = Vec::new(alloc);
-    let mut rules: Vec<Relation, A> = Vec::new(alloc);
+    let mut rules = Rules::new(alloc);
     let mut looked = 0;
     for relation in relations {
-        if !is_given(letters, rules.as_slice(), relation) {
+        if !is_given(letters, &rules, relation) {
             kept.push(*relation)?;
             rules.push(oriented(letters, &relation.left, &relation.right))?;
             looked = close(letters, &mut rules, looked)?;
@@ -88,7 +84,7 @@ pub fn short<A: Allocator + Copy>(
             let relation = kept[i];
             let others = relations_but(alloc, kept.as_slice(), i)?;
             let rules = completed(alloc, letters, others.as_slice(), FEW, STEPS)?;
-            if is_given(letters, rules.as_slice(), &relation) {
+            if is_given(letters, &rules, &relation) {
                 kept = others;
             }
         }

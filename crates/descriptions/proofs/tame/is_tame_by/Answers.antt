@@ -1,6 +1,6 @@
 use Rattle.std.proofs.Common.{◌≡◌, ◌<◌, ℕ, true, ap, subst, sym, ◌∙◌}
 use Rattle.monoid_table.specs.Grids.{times_in}
-use Rattle.descriptions.specs.Tame.{IsTameBy, is_in_group}
+use Rattle.descriptions.specs.Tame.{is_in_group}
 use Rattle.descriptions.proofs.tame.is_tame_by.Goals as goal
 
 pub returns-then-is_portion : goal.returns-then-is_portion

@@ -5,7 +5,7 @@ use Rattle.relations.proofs.rewriting.learn.Goals.{in-Some+in_ok-push, in_defaul
 
 pub loop-i-init : goal.loop-i-init
 loop-i-init g c = record {
-  follow = follow-self c.args.letters c.args.rules.now.items;
+  follow = follow-self c.args.letters c.args.rules.now.relations.items;
   long = omega arith;
 }
 
@@ -13,16 +13,16 @@ pub loop-i-preserved : goal.loop-i-preserved
 loop-i-preserved g c =
     elim c.match-overlap.branch [
       | in-Some+in_ok-push w ↦
-          rw (w.rules-is, w.in_ok-push.ensures.items) (record {
+          rw (w.rules-is, w.in_ok-push.ensures) (record {
             follow =
-                follow-push c.args.letters c.args.rules.now.items c.loop-i.rules.items
+                follow-push c.args.letters c.args.rules.now.relations.items c.loop-i.rules.relations.items
                 w.in-Some.rule c.loop-i.invariant.follow
-                (rw c.as_slice.ensures.value at w.in-Some.ensures);
+                w.in-Some.ensures;
             long =
                 omega (
                   arith,
                   c.loop-i.invariant.long,
-                  length-append c.loop-i.rules.items (w.in-Some.rule ∷ []),
+                  length-append c.loop-i.rules.relations.items (w.in-Some.rule ∷ []),
                 );
           })
       | in_default w ↦ rw w.rules-is c.loop-i.invariant

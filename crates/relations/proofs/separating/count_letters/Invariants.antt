@@ -1,4 +1,4 @@
-use Rattle.std.proofs.Common.{◌*◌, ◌≤◌, ℕ}
+use Rattle.std.proofs.Common.{◌*◌, ◌≤◌}
 use Rattle.relations.proofs.separating.count_letters.Given as goal
 
 abbrev pub invariant-loop-i : goal.invariant-loop-i

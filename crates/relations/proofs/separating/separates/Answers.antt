@@ -1,5 +1,4 @@
 use Rattle.std.proofs.Common.{◌≡◌, ◌<◌, ◌∙◌, ℕ, All, length, arith, refl, subst, sym}
-use Rattle.relations.specs.Presented.{AreRelatedWords}
 use Rattle.relations.proofs.Separated.{related-same}
 use Rattle.relations.proofs.separating.separates.Goals as goal
 
