@@ -120,16 +120,9 @@ pub fn verdict_text<A: SmallAllocator + Copy>(
     ensures { IfOk result (λ t. IsTextOf (lent_answer verdict.entry) (string_bytes t)) }
 {
     match verdict {
-        Ok(certified) => yes_text(alloc, certified.cert()),
-        Err(Refusal::Text) => no_text(alloc, 1, "Text"),
-        Err(Refusal::Law) => no_text(alloc, 2, "Law"),
-        Err(Refusal::Word) => no_text(alloc, 3, "Word"),
-        Err(Refusal::Order) => no_text(alloc, 4, "Order"),
-        Err(Refusal::Period) => no_text(alloc, 5, "Period"),
-        Err(Refusal::Apart) => no_text(alloc, 6, "Apart"),
         Err(Refusal::Outcome(code, position)) => outcome_text(alloc, code, position),
-        Err(Refusal::Limit) => no_text(alloc, 8, "Limit"),
         Err(Refusal::Memory) => Err(Memory),
+        _ => verdict_line(alloc, verdict),
     }
 }
 
