@@ -13,6 +13,7 @@ import functools
 import os
 import pathlib
 import random
+import re
 import subprocess
 import sys
 import threading
@@ -196,6 +197,39 @@ def compare_finder(program: str) -> None:
             compare_relations(quotient, bool(basis), *words)
 
 
+def table_of(quotient: misere.Quotient) -> str:
+    """The text of its table in another numbering."""
+    names = random.sample(range(quotient.order), quotient.order)
+    places = sorted(range(quotient.order), key=names.__getitem__)
+    lines: list[list[object]] = [
+        ["table", 1],
+        ["code", quotient.code],
+        ["order", quotient.order],
+        ["start", quotient.start],
+        ["period", quotient.period],
+        ["heaps", *(names[quotient.phi(heap)] for heap in range(1, quotient.start + quotient.period))],
+        ["portion", *sorted(names[it] for it in quotient.portion)],
+        *(["row", *(names[quotient.table[x][y]] for y in places)] for x in places),
+        ["end"],
+    ]
+    return "".join(" ".join(map(str, line)) + "\n" for line in lines)
+
+
+def certified(words: Sequence[str | os.PathLike[str]], table: str) -> tuple[str, int]:
+    run = subprocess.run(words, input=table, capture_output=True, text=True, check=False)
+    return run.stdout, run.returncode
+
+
+def compare_tables(program: str) -> None:
+    """What C and the program say of tables in other numberings, and of others, whose heaps are told in turn."""
+    for file in sorted(samples.glob("*.mqc")):
+        table = table_of(misere.check(file))
+        turned = re.sub(r"(?m)^heaps (\d+) (.*)$", r"heaps \2 \1", table)
+        assert certified([here / "certify"], table) == (file.read_text(), 0), file
+        for text in (table, turned):
+            assert certified([here / "certify"], text) == certified([program, "certify", "-"], text), file
+
+
 def compare_threads(compared: Sequence[Compared]) -> None:
     """Each thread asks some positions of each quotient again, at the same time."""
     wrong: list[Heaps] = []
@@ -225,6 +259,7 @@ def main() -> None:
     for file in refused:
         compare_refused(program, file)
     compare_finder(program)
+    compare_tables(program)
     compare_threads(compared)
     asked = f"{POSITIONS * len(SIX)} positions of {len(SIX)} quotients by C, Python and Rust, {PLAYED * len(SIX)} by the program"
     more = f"{INFINITE} of each of {len(infinite)} infinite ones"

@@ -140,6 +140,26 @@ uint32_t misere_solve_why(const uint8_t *code, size_t length, uint32_t limit, ui
                           uint32_t aim, uint32_t heaps, uint32_t order, uint8_t *told, size_t room,
                           uint64_t *count);
 
+/* Certifies a quotient of your own, in any numbering of its elements. The bytes are the text of its
+ * table, as `misere certify` reads it. These are its lines, each with its end, and beside them what they
+ * say:
+ *     table 1
+ *     code 0.33
+ *     order 6          how many elements there are: they are 0 to 5
+ *     start 1          the elements of the heaps repeat from this heap on; if none do, it is the first
+ *                      heap that has none
+ *     period 3         after how many heaps they repeat; if none do, 0
+ *     heaps 4 3 5      the elements of the heaps 1, 2, .., to start + period - 1
+ *     portion 1 4      those of the positions that are P, rising
+ *     row 1 0 3 2 1 0  the products of 0 with 0, 1, 2, ..; then such a row for each further element
+ *     end
+ * It writes the bytes of the certificate, which is accepted, and to *count how many they are. With
+ * MISERE_TEXT to MISERE_LIMIT_MET, and with MISERE_GAVE_UP, it writes the lines of `misere certify`, such
+ * as "no 2 Commutes 1 2", each with its end: what is wrong with the table, of its elements as they are
+ * numbered there. They need room too; with MISERE_NO_ROOM it writes *count alone. */
+uint32_t misere_certify(const uint8_t *table, size_t length, uint32_t limit, uint8_t *told, size_t room,
+                        uint64_t *count);
+
 /* What is written of a quotient, and by which relations. */
 enum {
     MISERE_DESCRIPTION = 0,

@@ -23,7 +23,7 @@ NAMES: Final = {
     "Guiles": "0.15",
     "Officers": "0.6",
 }
-ATLAS = ("octal.json", "hexadecimal.json")
+ATLAS = ("octal.json", "hexadecimal.json", "parts.json")
 INFINITE = "infinite"
 # A code or a name; or a code with the last heap of a partial certificate, which is 0 of a full one
 Key = Union[str, "tuple[str, int]"]

@@ -57,7 +57,7 @@ def certify(
     of which the last `period` come again and again; or with the period 0 it is a part of the game, with these heaps alone.
     `portion` has the elements of the P-positions. Elements and heaps are numbered anew as a certificate wants it, which
     is then checked. What is refused of the table itself is said by its own numbers."""
-    return Quotient(own_certificate(code, table, heaps, portion, period), limit)
+    return Quotient(own_certificate(code, table, heaps, portion, period, number_of(limit)), limit)
 
 
 def solve(

@@ -1,28 +1,30 @@
-"""A quotient of one's own, in any numbering, as the text of a certificate: what docs/NUMBERING.md asks for. Nothing here
-is believed: the library checks the text."""
+"""A quotient of one's own, in any numbering: the text of its table, as docs/CERTIFYING.md says, and what is wrong with
+it. The library numbers it, and checks it."""
 
 from __future__ import annotations
 
 import operator
-from collections.abc import Iterable, Iterator, Sequence
-from typing import Final
+from collections.abc import Iterable, Sequence
 
-from ._bounds import MOST_ELEMENTS
-from ._faults import APART, LAW, NOT_IN_RANGE, WrongType, fault
-
-# Up to these bounds a certificate has all rows and separators, and beyond them the rows of the heaps' elements alone;
-# the first format is for octal codes up to this order.
-LARGEST_WHOLE: Final = 512
-MOST_WHOLE_ENTRIES: Final = 1025
-LARGEST_OF_FIRST_FORMAT: Final = 256
+from ._bounds import MOST_BYTES, MOST_ELEMENTS
+from ._faults import GAVE_UP, NOT_IN_RANGE, OUTCOME, MisereError, WrongType, fault
+from ._library import library, told_by
 
 Table = list[list[int]]
 
+# What may be wrong with a line of the text, beyond what is looked at here
+_LINES = {
+    2: "the code isn't one",
+    4: "there are too many heaps",
+    5: "there are too many heaps",
+    7: "the portion has no element",
+}
+
 
 def own_certificate(
-    code: str, table: Sequence[Sequence[int]], heaps: Iterable[int], portion: Iterable[int], period: int
-) -> str:
-    """The text of the certificate of a table in any numbering."""
+    code: str, table: Sequence[Sequence[int]], heaps: Iterable[int], portion: Iterable[int], period: int, limit: int
+) -> bytes:
+    """The text of the certificate of a table in any numbering; or it raises the fault of the table."""
     rows = _rows_of(table)
     order = len(rows)
     elements = [_element(it, order, "a heap's element") for it in heaps]
@@ -31,12 +33,13 @@ def own_certificate(
         raise WrongType(NOT_IN_RANGE, f"a code is a text such as '0.33', and not {code!r}")
     if not elements or not 0 <= (period := _integer(period, "a period")) <= len(elements):
         raise fault(NOT_IN_RANGE, f"of {len(elements)} heaps none has the period {period}")
-    identity = _identity(rows)
-    _look_at_laws(rows, elements)
-    elements, period = _least_period(elements, period) if period else (elements, 0)
-    numbers, keys = _numbered(rows, elements, identity)
-    _look_at_reach(numbers, order)
-    return "\n".join([*_lines(code, rows, elements, p_elements, period, numbers, keys), "end", ""])
+    if period:
+        elements, period = _least_period(elements, period)
+    text = _text(code, rows, elements, p_elements, period)
+    status, told = told_by(MOST_BYTES, library.misere_certify, text, len(text), limit)
+    if status:
+        raise _fault_of(status, told.decode("ascii"), rows)
+    return told
 
 
 def _integer(number: int, what: str) -> int:
@@ -63,31 +66,6 @@ def _rows_of(table: Sequence[Sequence[int]]) -> Table:
     return [[_element(it, order, f"an entry of row {at}") for it in row] for at, row in enumerate(table)]
 
 
-def _identity(rows: Table) -> int:
-    all_elements = [*range(len(rows))]
-    for at, row in enumerate(rows):
-        if row == all_elements and [other[at] for other in rows] == all_elements:
-            return at
-    raise fault(LAW, "no element of the table is the identity")
-
-
-def _look_at_laws(rows: Table, elements: Iterable[int]) -> None:
-    """Refuses a table that isn't commutative, or not associative where a heap's element is in the middle. (All elements
-    are products of these, as is looked at later.)"""
-    for x, row in enumerate(rows):
-        for y in range(x):
-            if row[y] != rows[y][x]:
-                raise fault(LAW, f"the product {x}·{y} is {row[y]}, and {y}·{x} is {rows[y][x]}")
-    for middle in sorted(set(elements)):
-        by_middle = rows[middle]
-        for x, row in enumerate(rows):
-            first = rows[row[middle]]
-            if first != [row[it] for it in by_middle]:
-                y = next(y for y, it in enumerate(by_middle) if first[y] != row[it])
-                said = f"the product ({x}·{middle})·{y} is {first[y]}, and {x}·({middle}·{y}) is {row[by_middle[y]]}"
-                raise fault(LAW, said)
-
-
 def _least_period(elements: list[int], period: int) -> tuple[list[int], int]:
     """The elements of the first heaps, and the period with which the last of them come again: the least period, from the
     earliest heap on."""
@@ -99,79 +77,57 @@ def _least_period(elements: list[int], period: int) -> tuple[list[int], int]:
     return elements[:end], least
 
 
-def _numbered(rows: Table, elements: list[int], identity: int) -> tuple[dict[int, int], list[tuple[int, int]]]:
-    """The new number of each element that heaps reach, in the order of these numbers, and the keys of all but the
-    first."""
-    numbers, keys = {identity: 0}, []
-    queue = [identity]
-    for number, element in enumerate(queue):
-        for heap, of_heap in enumerate(elements, 1):
-            product = rows[element][of_heap]
-            if product not in numbers:
-                numbers[product] = len(queue)
-                queue.append(product)
-                keys.append((number, heap))
-    return numbers, keys
+def _text(code: str, rows: Table, elements: list[int], portion: set[int], period: int) -> bytes:
+    """The text of a table."""
+    lines = [
+        "table 1",
+        f"code {code}",
+        f"order {len(rows)}",
+        f"start {len(elements) + 1 - period}",
+        f"period {period}",
+        _line("heaps", elements),
+        _line("portion", sorted(portion)),
+        *[_line("row", row) for row in rows],
+        "end\n",
+    ]
+    return "\n".join(lines).encode("utf-8", "surrogatepass")
 
 
-def _look_at_reach(numbers: dict[int, int], order: int) -> None:
-    missing = [it for it in range(order) if it not in numbers]
-    if missing:
-        raise fault(
-            LAW, f"no position has the element {missing[0]}: the heaps' elements make {len(numbers)} of {order}"
-        )
+def _line(name: str, numbers: Iterable[int]) -> str:
+    return " ".join([name, *map(str, numbers)])
 
 
-def _outcomes(renamed: Table, portion: set[int], names: list[int]) -> list[int]:
-    """Of each element, which products with it are in the portion: a bit for each other factor. No two are alike."""
-    seen: dict[int, int] = {}
-    for x, row in enumerate(renamed):
-        alike = seen.setdefault(sum(1 << z for z, it in enumerate(row) if it in portion), x)
-        if alike != x:
-            raise fault(APART, f"no element tells {names[alike]} and {names[x]} apart")
-    return [*seen]
+def _fault_of(status: int, text: str, rows: Table) -> MisereError:
+    """The fault that the library's lines say, such as "no 2 Commutes 1 2"."""
+    if not text:
+        return fault(status)
+    lines = text.splitlines()
+    _, _, name, *words = lines[0].split(" ")
+    if status == GAVE_UP:
+        return fault(status, "no fault was found, but its certificate would be too long, or have too many heaps")
+    if status == OUTCOME:
+        heaps = [int(it) for it in lines[1].split(" ")[3:]]
+        return fault(status, position=[it for it in heaps if it])
+    stop = fault(status, _said(name, words, rows))
+    stop.name = name
+    return stop
 
 
-def _separators(outcomes: list[int]) -> Iterator[int]:
-    """The least separator of each pair: the first place at which their outcomes differ."""
-    for x, of_x in enumerate(outcomes):
-        for of_y in outcomes[x + 1 :]:
-            apart = of_x ^ of_y
-            yield (apart & -apart).bit_length() - 1
-
-
-def _lines(
-    code: str,
-    rows: Table,
-    elements: list[int],
-    portion: set[int],
-    period: int,
-    numbers: dict[int, int],
-    keys: list[tuple[int, int]],
-) -> Iterator[str]:
-    names = [*numbers]
-    renamed = [[numbers[rows[x][y]] for y in names] for x in names]
-    p_elements = {numbers[it] for it in portion}
-    order, start = len(names), len(elements) + 1 - period
-    outcomes = _outcomes(renamed, p_elements, names)
-    is_octal = not any(it in "89abcdef" for it in code)
-    if order > LARGEST_WHOLE or start + period > MOST_WHOLE_ENTRIES:
-        version, first, last = 3, 1, sum(1 for element, _ in keys if element == 0) + 1
-    else:
-        version, first, last = 1 if is_octal and order <= LARGEST_OF_FIRST_FORMAT and period else 2, 0, order
-    yield f"mqc {version}"
-    yield f"code {code}"
-    yield f"order {order}"
-    yield f"start {start}"
-    yield f"period {period}"
-    yield _line("phi", (numbers[it] for it in elements))
-    yield _line("portion", sorted(p_elements))
-    yield _line("words", (f"{element}:{heap}" for element, heap in keys))
-    for row in renamed[first:last]:
-        yield _line("row", row)
-    if version != 3:
-        yield _line("apart", _separators(outcomes))
-
-
-def _line(name: str, words: Iterable[object]) -> str:
-    return " ".join([name, *map(str, words)])
+def _said(name: str, words: list[str], rows: Table) -> str | None:
+    """What is wrong with the table."""
+    if name == "Text":
+        return _LINES.get(int(words[1]), f"it is no table, by the line {words[1]} of its text")
+    named = [int(it) for it in words]
+    if name == "Identity":
+        return "no element of the table is the identity"
+    if name == "Commutes":
+        x, y = named
+        return f"the product {x}·{y} is {rows[x][y]}, and {y}·{x} is {rows[y][x]}"
+    if name == "Associates":
+        x, y, z = named
+        return f"the product ({x}·{y})·{z} is {rows[rows[x][y]][z]}, and {x}·({y}·{z}) is {rows[x][rows[y][z]]}"
+    if name == "Unreached":
+        return f"no position has the element {named[0]}"
+    if name == "Apart":
+        return f"no element tells {named[0]} and {named[1]} apart"
+    return None

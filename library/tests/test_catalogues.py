@@ -28,7 +28,8 @@ class Catalogues(unittest.TestCase):
 
     def test_a_part_has_its_last_heap(self) -> None:
         part = self.atlas["Dawson's Kayles"]
-        self.assertEqual((part.last_heap, self.atlas["0.07", 24]), (24, part))
+        self.assertEqual((part, part.last_heap), (quotient("0.07_heaps_33"), 33))
+        self.assertEqual(self.atlas["0.07", 24].last_heap, 24)
         self.assertEqual(self.atlas["0.77", 0], self.atlas["Kayles"])
 
     def test_what_is_there(self) -> None:

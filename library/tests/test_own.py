@@ -6,7 +6,8 @@ import random
 import unittest
 
 import misere
-from tests import quotient, samples
+from misere._library import library, told_by
+from tests import quotient, samples, top
 
 # Of two elements each of which is its own inverse, and of three that aren't so simple
 TWO = [[0, 1], [1, 0]]
@@ -30,22 +31,22 @@ class Own(unittest.TestCase):
 
     def test_what_is_refused_of_a_table_has_its_own_numbers(self) -> None:
         rows: list[tuple[str, list[list[int]], list[int], list[int], str]] = [
-            ("no identity", [[0, 0], [0, 0]], [1], [1], "2 Law: no element of the table is the identity"),
+            ("no identity", [[0, 0], [0, 0]], [1], [1], "2 Identity: no element of the table is the identity"),
             (
                 "not commutative",
                 [[0, 1, 2], [1, 1, 1], [2, 2, 2]],
                 [1, 2],
                 [1],
-                "2 Law: the product 2·1 is 2, and 1·2 is 1",
+                "2 Commutes: the product 1·2 is 1, and 2·1 is 2",
             ),
             (
                 "not associative",
                 [[0, 1, 2], [1, 2, 0], [2, 0, 0]],
                 [1, 2],
                 [1],
-                "2 Law: the product (1·1)·2 is 0, and 1·(1·2) is 1",
+                "2 Associates: the product (1·1)·2 is 0, and 1·(1·2) is 1",
             ),
-            ("unreached", CHAIN, [1], [1], "2 Law: no position has the element 2: the heaps' elements make 2 of 3"),
+            ("unreached", CHAIN, [1], [1], "3 Unreached: no position has the element 2"),
             ("not apart", TWO, [1], [0, 1], "6 Apart: no element tells 0 and 1 apart"),
             (
                 "the empty position is N",
@@ -59,6 +60,17 @@ class Own(unittest.TestCase):
             with self.subTest(name), self.assertRaises(misere.Refused) as refused:
                 misere.certify("0.1", table, heaps, portion)
             self.assertEqual(str(refused.exception), said)
+
+    def test_the_call_says_what_the_program_says(self) -> None:
+        blocks = [it.splitlines() for it in (top / "tests/certifying.rows").read_text().split("\n\n")]
+        refused = [it for it in blocks if "$ certify -" in it and "= 1" in it]
+        self.assertGreater(len(refused), 8)
+        for block in refused:
+            table, said = ("".join(f"{it[2:]}\n" for it in block if it.startswith(mark)) for mark in "<>")
+            with self.subTest(said):
+                # (at first there is room for a part of the lines)
+                told = told_by(8, library.misere_certify, table.encode(), len(table), misere.LIMIT)
+                self.assertEqual(told, (int(said.split()[1]), said.encode()))
 
     def test_what_is_no_table(self) -> None:
         rows: list[tuple[str, list[list[int]], list[int], list[int], int, str]] = [

@@ -31,7 +31,7 @@ class Wheel(unittest.TestCase):
         for file in (top / "library/misere").glob("*.*"):
             self.assertEqual(files[f"misere/{file.name}"], file.read_bytes())
         self.assertEqual(sum(it.endswith(".mqi") for it in files), len(list((top / "atlas/infinite").glob("*.mqi"))))
-        for name in ("octal.json", "hexadecimal.json", "infinite/0.354_heaps_5.mqi"):
+        for name in ("octal.json", "hexadecimal.json", "parts.json", "infinite/0.354_heaps_5.mqi"):
             self.assertEqual(files[f"misere/atlas/{name}"], (top / "atlas" / name).read_bytes())
         licences = {place.rpartition("/")[2]: text for place, text in files.items() if "LICENSE-" in place}
         self.assertEqual(licences, {name: (top / name).read_bytes() for name in ("LICENSE-MIT", "LICENSE-APACHE")})

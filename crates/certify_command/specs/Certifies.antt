@@ -1,7 +1,8 @@
 -- What is said of a table that somebody brings. This project's own.
-use Rattle.std.specs.Prelude.{◌≡◌, ◌<◌, ◌⊎◌, ℕ, Bool, true, false, List, ◌++◌, length, Option, Some, None, codes, decimal}
+use Rattle.std.specs.Prelude.{◌≡◌, ◌≢◌, ◌<◌, ◌⊎◌, ℕ, Bool, true, false, List, ◌++◌, length, Option, Some, None, codes, decimal}
 use Rattle.misere_theory.specs.Certificates.{Certificate}
 use Rattle.answers.specs.ByteVerdicts.{refused}
+use Rattle.answers.specs.Refusals.{refusal_number}
 use Rattle.verdict_texts.specs.Lines.{IsTextOf}
 use Rattle.command_results.specs.Stops.{IsFileCause}
 use Rattle.command_results.specs.declared.stop.Stop.{Stop}
@@ -41,28 +42,55 @@ pub record IsCertifiedText (o : Own) (text : List ℕ) : Type 0 where
   pub elements : List ℕ
   pub certified : HasCertified o text certificate identity numbers elements
 
--- the text is that of a fault which the table has
-pub record IsRefusedText (o : Own) (limit : ℕ) (text : List ℕ) : Type 0 where
+-- the status of a fault: the number of its no, or 13 where no certificate was made
+abbrev pub fault_status : CertifyFault → ℕ
+fault_status NoIdentity = 2
+fault_status (NotCommuting x y) = 2
+fault_status (Unreached x) = 3
+fault_status (NotAssociating x y z) = 2
+fault_status (Alike x y) = 6
+fault_status (Refused r) = refusal_number r
+fault_status NoDraft = 13
+fault_status fault.Memory = 9
+
+-- the text and the status are those of a fault which the table has
+pub record IsRefusedText (o : Own) (limit : ℕ) (text : List ℕ) (status : ℕ) : Type 0 where
   pub why : CertifyFault
   pub true_of : IsFaultOf o limit why
   pub told : IsFaultText why text
+  pub number : status ≡ fault_status why
 
--- what is said of a table, and whether it succeeds
-abbrev pub CertifiesTable : Own → ℕ → List ℕ → Bool → Type 0
-CertifiesTable o limit text true = IsCertifiedText o text
-CertifiesTable o limit text false = IsRefusedText o limit text
+-- what is told of a table: with 0 its certificate, else a fault
+abbrev pub TellsTable : Own → ℕ → List ℕ → ℕ → Type 0
+TellsTable o limit text status =
+    (status ≡ 0 → IsCertifiedText o text) × (status ≢ 0 → IsRefusedText o limit text status)
 
 -- a line of the text, which nothing more is said of
 abbrev pub text_line : ℕ → List ℕ
 text_line line = codes "no 1 Text line " ++ decimal line ++ codes "\n"
 
--- The bytes spell no table, which the text says, or they spell one, and this is said of it.
-pub data CertifiesBytes (bytes : List ℕ) (limit : ℕ) (text : List ℕ) (succeeds : Bool)
-    : Type 0 where
-  NoTable : (line : ℕ) → ((o : Own) → SpellsTable bytes o → ⊥) → text ≡ text_line line
-      → succeeds ≡ false → CertifiesBytes bytes limit text succeeds
-  OfTable : (o : Own) → SpellsTable bytes o → CertifiesTable o limit text succeeds
-      → CertifiesBytes bytes limit text succeeds
+-- the bytes spell a table, and the text is that of its certificate
+pub record AreCertified (bytes text : List ℕ) : Type 0 where
+  pub table : Own
+  pub spelled : SpellsTable bytes table
+  pub certified : IsCertifiedText table text
+
+-- The bytes spell no table, which the text says, or they spell one, and it has a fault.
+pub data AreNotCertified (bytes : List ℕ) (limit : ℕ) (text : List ℕ) (status : ℕ) : Type 0 where
+  NoTable : (line : ℕ) → ((o : Own) → SpellsTable bytes o → ⊥) → text ≡ text_line line → status ≡ 1
+      → AreNotCertified bytes limit text status
+  OfTable : (o : Own) → SpellsTable bytes o → IsRefusedText o limit text status
+      → AreNotCertified bytes limit text status
+
+-- what is told of bytes
+abbrev pub TellsBytes : List ℕ → ℕ → List ℕ → ℕ → Type 0
+TellsBytes bytes limit text status =
+    (status ≡ 0 → AreCertified bytes text) × (status ≢ 0 → AreNotCertified bytes limit text status)
+
+-- what is said of bytes, and whether it succeeds
+abbrev pub CertifiesBytes : List ℕ → ℕ → List ℕ → Bool → Type 0
+CertifiesBytes bytes limit text true = AreCertified bytes text
+CertifiesBytes bytes limit text false = (status : ℕ) × AreNotCertified bytes limit text status
 
 -- the same of the bytes that are given
 abbrev pub Certifies : (List ℕ → Type 0) → ℕ → List ℕ → Bool → Type 0

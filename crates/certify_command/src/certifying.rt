@@ -1,52 +1,28 @@
 //! `certify`: what is said of a table.
-ghost use Rattle.std.specs.Prelude.{◌≡◌, IfErr, IfOk, false, is_none, is_some, option_map};
+ghost use Rattle.std.specs.Prelude.{◌≡◌, ℕ, IfErr, IfOk, List, false, is_none, is_some, option_map};
 ghost use Rattle.verdict_texts.specs.Streams.{AreKnownAs};
 ghost use Rattle.check_command.specs.Checks.{AreGiven, failed};
-ghost use Rattle.certify_command.specs.Certifies.{Certifies, CertifiesBytes, CertifiesTable, IsFaultText, IsTableCause};
+ghost use Rattle.certify_command.specs.Certifies.{Certifies, CertifiesBytes, IsTableCause, TellsBytes};
 
 use crate::given::given_bytes;
-use crate::lines::{fault_text, no_table};
-use allocation::Memory;
+use crate::telling::{ToldTable, certify_bytes};
 use command_results::{Said, Stop};
 use folders::Folder;
-use own_quotients::{CertifyFault, Numbered};
-use own_tables::{OwnTable, TableFault, read_table};
 use std::alloc::Global;
 use streams::Source;
 
-/// What is said of a fault.
-fn refuse(alloc: Global, fault: CertifyFault) -> Result<Said, Memory>
-    ensures no { IfOk result (λ s. IsFaultText fault s.text.items) }
-    ensures fails { IfOk result (λ s. s.succeeds ≡ false) }
+/// What is said where this is told.
+fn said(told: ToldTable) -> Said
+    ensures { (bytes : List ℕ) (limit : ℕ) → TellsBytes bytes limit told.text.items told.status
+        → CertifiesBytes bytes limit result.text.items result.succeeds }
 {
-    let text = fault_text(alloc, &fault)?;
-    Ok(Said::no(text.into_bytes()))
-}
-
-/// What is said of a table.
-fn certify_table(alloc: Global, table: &OwnTable, limit: u32) -> Result<Said, Memory>
-    ensures { IfOk result (λ s. CertifiesTable table.now limit s.text.items s.succeeds) }
-{
-    match own_quotients::certify(alloc, table, limit) {
-        Ok(Numbered { text, .. }) => Ok(Said {
-            text,
+    if told.status == 0 {
+        Said {
+            text: told.text,
             succeeds: true,
-        }),
-        Err(fault) => refuse(alloc, fault),
-    }
-}
-
-/// What is said of bytes.
-fn certify_bytes(alloc: Global, bytes: &[u8], limit: u32) -> Result<Said, Memory>
-    ensures { IfOk result (λ s. CertifiesBytes bytes.now limit s.text.items s.succeeds) }
-{
-    match read_table(alloc, bytes) {
-        Ok(table) => certify_table(alloc, &table, limit),
-        Err(TableFault::Text(line)) => {
-            let text = no_table(alloc, line)?;
-            Ok(Said::no(text.into_bytes()))
         }
-        Err(TableFault::Memory) => Err(Memory),
+    } else {
+        Said::no(told.text)
     }
 }
 
@@ -72,6 +48,6 @@ pub fn certify<'a, F: Folder, S: Source>(
         → folder.new ≡ folder.old }
 {
     let bytes = given_bytes(alloc, file, folder, input)?;
-    let said = certify_bytes(alloc, &bytes, limit)?;
-    Ok(said)
+    let told = certify_bytes(alloc, &bytes, limit)?;
+    Ok(said(told))
 }

@@ -4,6 +4,8 @@
 mod certifying;
 mod given;
 mod lines;
+mod telling;
 
 pub use certifying::certify;
 pub use given::LARGEST_TABLE;
+pub use telling::{ToldTable, certify_bytes};

@@ -1,18 +1,29 @@
 //! What is asked of a certificate that is at hand.
-ghost use Rattle.std.specs.List.Sorted.{IsNonDecreasing, IsPermutation};
-ghost use Rattle.std.specs.Prelude.{◌≡◌, ◌≢◌, ◌⊎◌, All, IfOk, IfErr, OnOk, OnErr, length};
+ghost use Rattle.std.specs.List.Sorted.{IsNonDecreasing};
+ghost use Rattle.std.specs.Prelude.{◌≡◌, ◌≢◌, All, IfOk, IfErr, IsPermutation, OnOk, OnErr, length};
 ghost use Rattle.misere_theory.specs.Certificates.{IsHeapOf};
 ghost use Rattle.positions.specs.Positions.{IsSize};
-ghost use Rattle.misere_library.specs.Queries.{TellsOutcome, TellsValue, TellsAnswer};
-ghost use Rattle.misere_library.specs.Many.{AreEnds, TellAll};
+ghost use Rattle.misere_library.specs.Queries.{TellsAnswer};
+ghost use Rattle.misere_library.specs.Questions.{TellsAsked};
+ghost use Rattle.misere_library.specs.Many.{AreEnds};
 ghost use Rattle.misere_library.specs.Asked.{AreUnanswered, IsUnanswered};
 
-use crate::heaps::{are_sizes, speaks_of};
-use crate::many::{are_ends, fill_outcomes, fill_values};
-use crate::numbers::{BEYOND, DONE, MisereAnswer, NOT_A_HEAP, NOT_ENDS, told};
-use crate::queries::{outcome_at, value_at};
+use crate::heaps::{are_ends, are_sizes, position_of, speaks_of};
+use crate::numbers::{BEYOND, DONE, MisereAnswer, NOT_A_HEAP, NOT_ENDS, number, told};
+use allocation::Memory;
 use answers::Certified;
-use player::answer_at;
+use player::{answer, answer_at};
+use positions::{Outcome, Position};
+use std::alloc::Global;
+
+/// What is asked of a position, where a number tells it.
+#[derive(Clone, Copy)]
+pub(crate) enum Question {
+    /// Who wins.
+    Outcome,
+    /// Which element of the quotient is its own.
+    Value,
+}
 
 /// Whether the certificate speaks of the heaps; else why not.
 pub(crate) fn fit(certified: &Certified, heaps: &[u64]) -> Result<(), u32>
@@ -50,59 +61,66 @@ pub(crate) fn all_fit(
     fit(certified, heaps)
 }
 
-/// The outcome of the position of the heaps, or why there is none.
-pub(crate) fn outcome_in(certified: &Certified, heaps: &[u64]) -> Result<u32, u32>
-    ensures yes { IfOk result (λ n. TellsOutcome heaps.now n certified.now) }
-    ensures no { IfErr result (λ s. s ≢ 0 × IsUnanswered certified.now heaps.now s) }
+/// What is asked of the position of the heaps.
+pub(crate) fn number_at(question: Question, certified: &Certified, heaps: &[u64]) -> u32
+    requires { All (IsHeapOf certified.now) heaps.now }
+    ensures { TellsAsked question heaps.now result certified.now }
 {
-    fit(certified, heaps)?;
-    Ok(outcome_at(certified, heaps))
+    let value = certified.value(heaps);
+    match question {
+        Question::Value => value as u32,
+        Question::Outcome => {
+            if certified.holds(value) {
+                number(Outcome::P)
+            } else {
+                number(Outcome::N)
+            }
+        }
+    }
 }
 
-/// The element of the position of the heaps, or why there is none.
-pub(crate) fn value_in(certified: &Certified, heaps: &[u64]) -> Result<u32, u32>
-    ensures yes { IfOk result (λ n. TellsValue heaps.now n certified.now) }
-    ensures no { IfErr result (λ s. s ≢ 0 × IsUnanswered certified.now heaps.now s) }
-{
-    fit(certified, heaps)?;
-    Ok(value_at(certified, heaps))
-}
-
-/// Tells the outcome of each position; else why not.
-pub(crate) fn outcomes_in(
+/// Tells what is asked of the position of the heaps; else why not.
+pub(crate) fn tell_in(
+    question: Question,
     certified: &Certified,
     heaps: &[u64],
-    ends: &[u64],
-    told: &mut [u32],
+    told: &mut u32,
 ) -> u32
-    ensures yes { result ≡ 0 → TellAll TellsOutcome heaps.now ends.now told.new certified.now }
-    ensures no { result ≢ 0
-        → AreUnanswered certified.now heaps.now ends.now (length told.old) result }
+    ensures yes { result ≡ 0 → TellsAsked question heaps.now told.new certified.now }
+    ensures no { result ≢ 0 → IsUnanswered certified.now heaps.now result }
     ensures stays { result ≢ 0 → told.new ≡ told.old }
 {
-    match all_fit(certified, heaps, ends, told.len()) {
+    match fit(certified, heaps) {
         Ok(()) => {
-            fill_outcomes(certified, heaps, ends, told);
+            *told = number_at(question, certified, heaps);
             DONE
         }
         Err(status) => status,
     }
 }
 
-/// Tells the element of each position; else why not.
-pub(crate) fn values_in(certified: &Certified, heaps: &[u64], ends: &[u64], told: &mut [u32]) -> u32
-    ensures yes { result ≡ 0 → TellAll TellsValue heaps.now ends.now told.new certified.now }
-    ensures no { result ≢ 0
-        → AreUnanswered certified.now heaps.now ends.now (length told.old) result }
-    ensures stays { result ≢ 0 → told.new ≡ told.old }
+/// The answer in the position of the heaps.
+pub(crate) fn answer_of(
+    alloc: Global,
+    certified: &Certified,
+    heaps: &[u64],
+) -> Result<MisereAnswer, Memory>
+    requires sizes { All IsSize heaps.now }
+    requires speaks { All (IsHeapOf certified.now) heaps.now }
+    ensures { IfOk result (λ n. TellsAnswer heaps.now n certified.now) }
 {
-    match all_fit(certified, heaps, ends, told.len()) {
-        Ok(()) => {
-            fill_values(certified, heaps, ends, told);
-            DONE
-        }
-        Err(status) => status,
-    }
+    let position = position_of(alloc, heaps)?;
+    Ok(answer_to(certified, heaps, &position))
+}
+
+/// The answer in a position, which is that of the heaps.
+fn answer_to(certified: &Certified, heaps: &[u64], position: &Position) -> MisereAnswer
+    requires speaks { All (IsHeapOf certified.now) heaps.now }
+    requires same { IsPermutation heaps.now position.now }
+    ensures { TellsAnswer heaps.now result certified.now }
+{
+    position.heaps();
+    told(answer(certified, position))
 }
 
 /// The answer in the position of the heaps, which stand rising afterwards.

@@ -3,10 +3,12 @@ ghost use Rattle.std.specs.Prelude.{◌≡◌, ◌≢◌, ◌≤◌, ◌<◌, �
 ghost use Rattle.misere_library.specs.Queries.{Certify, FailsAt, IsNo, IsStatus, TellsOutcome, TellsValue, TellsAnswer};
 ghost use Rattle.misere_library.specs.Many.{IsNoToMany, TellAll};
 
-use crate::many::{answers, outcomes, values};
-use crate::numbers::{DONE, MisereAnswer};
-use crate::queries::{answer_by, certified, outcome, value};
-use crate::refusing::refused;
+use crate::asking::{Question, answer_of};
+use crate::bytes::{certified, certified_of, certified_of_all, tell, tell_all};
+use crate::heaps::put;
+use crate::many::fill_answers;
+use crate::numbers::{DONE, MEMORY, MisereAnswer, OUTCOME, status};
+use checker::{Refusal, check};
 use std::alloc::Global;
 
 /// The version of these calls.
@@ -43,13 +45,7 @@ pub extern "C" fn misere_outcome(
     ensures no { result ≢ 0 → IsNo bytes.now limit heaps.now result }
     ensures stays { result ≢ 0 → told.new ≡ told.old }
 {
-    match outcome(alloc, bytes, limit, heaps) {
-        Ok(number) => {
-            *told = number;
-            DONE
-        }
-        Err(status) => status,
-    }
+    tell(alloc, bytes, limit, Question::Outcome, heaps, told)
 }
 
 /// Tells the element of the quotient that is the position's.
@@ -65,13 +61,7 @@ pub extern "C" fn misere_value(
     ensures no { result ≢ 0 → IsNo bytes.now limit heaps.now result }
     ensures stays { result ≢ 0 → told.new ≡ told.old }
 {
-    match value(alloc, bytes, limit, heaps) {
-        Ok(element) => {
-            *told = element;
-            DONE
-        }
-        Err(status) => status,
-    }
+    tell(alloc, bytes, limit, Question::Value, heaps, told)
 }
 
 /// Tells what to do in the position of the heaps: the first winning move, where there is one.
@@ -87,11 +77,14 @@ pub extern "C" fn misere_answer(
     ensures no { result ≢ 0 → IsNo bytes.now limit heaps.now result }
     ensures stays { result ≢ 0 → told.new ≡ told.old }
 {
-    match answer_by(alloc, bytes, limit, heaps) {
-        Ok(answer) => {
-            *told = answer;
-            DONE
-        }
+    match certified_of(alloc, bytes, limit, heaps) {
+        Ok(certified) => match answer_of(alloc, &certified, heaps) {
+            Ok(answer) => {
+                *told = answer;
+                DONE
+            }
+            Err(_) => MEMORY,
+        },
         Err(status) => status,
     }
 }
@@ -112,10 +105,7 @@ pub extern "C" fn misere_outcomes(
         → IsNoToMany bytes.now limit heaps.now ends.now (length told.old) result }
     ensures stays { result ≢ 0 → told.new ≡ told.old }
 {
-    match outcomes(alloc, bytes, limit, heaps, ends, told) {
-        Ok(()) => DONE,
-        Err(status) => status,
-    }
+    tell_all(alloc, bytes, limit, Question::Outcome, heaps, ends, told)
 }
 
 /// Tells the element of each of many positions, which stand as for `misere_outcomes`.
@@ -134,10 +124,7 @@ pub extern "C" fn misere_values(
         → IsNoToMany bytes.now limit heaps.now ends.now (length told.old) result }
     ensures stays { result ≢ 0 → told.new ≡ told.old }
 {
-    match values(alloc, bytes, limit, heaps, ends, told) {
-        Ok(()) => DONE,
-        Err(status) => status,
-    }
+    tell_all(alloc, bytes, limit, Question::Value, heaps, ends, told)
 }
 
 /// Tells what to do in each of many positions, which stand as for `misere_outcomes`.
@@ -156,8 +143,8 @@ pub extern "C" fn misere_answers(
         → IsNoToMany bytes.now limit heaps.now ends.now (length told.old) result }
     ensures stays { result ≢ 0 → told.new ≡ told.old }
 {
-    match answers(alloc, bytes, limit, heaps, ends, told) {
-        Ok(()) => DONE,
+    match certified_of_all(alloc, bytes, limit, heaps, ends, told.len()) {
+        Ok(certified) => fill_answers(alloc, &certified, heaps, ends, told),
         Err(status) => status,
     }
 }
@@ -179,5 +166,12 @@ pub extern "C" fn misere_failure(
     ensures no_room { length told.old < count.new → told.new ≡ told.old }
     ensures stays { result ≢ 7 → told.new ≡ told.old × count.new ≡ count.old }
 {
-    refused(alloc, bytes, limit, told, count)
+    match check(alloc, bytes, limit) {
+        Ok(_) => DONE,
+        Err(Refusal::Outcome(_, position)) => {
+            *count = put(position.heaps(), told);
+            OUTCOME
+        }
+        Err(refusal) => status(&refusal),
+    }
 }

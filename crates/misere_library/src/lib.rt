@@ -6,6 +6,7 @@
 #![tactic(auto)]
 
 mod asking;
+mod bytes;
 mod exports;
 mod heaps;
 #[cfg(test)]
@@ -17,8 +18,6 @@ mod many;
 mod many_tests;
 mod numbers;
 mod opened_exports;
-mod opened_queries;
-mod queries;
-mod refusing;
+mod opening;
 #[cfg(test)]
 mod tests;

@@ -6,10 +6,10 @@ ghost use Rattle.misere_library.specs.Queries.{Certify, IsStatus, TellsOutcome, 
 ghost use Rattle.misere_library.specs.Many.{TellAll};
 ghost use Rattle.misere_library.specs.Asked.{AreNoAnswers, IsOpened, IsUnopened, IsNoAnswer, IsNoAnswerToMany, IsUnshared};
 
-use crate::numbers::{DONE, MisereAnswer};
-use crate::opened_queries::{
-    answer, answers, close, open_quotient, outcome, outcomes, share, value, values,
-};
+use crate::asking::{Question, answer_in};
+use crate::many::answer_all_in;
+use crate::numbers::{DONE, MEMORY, MisereAnswer, NOT_OPEN};
+use crate::opening::{another, owner, tell_all_opened, tell_opened};
 use opened::Opened;
 use std::alloc::Global;
 
@@ -21,7 +21,13 @@ pub extern "C" fn misere_open(alloc: Global, bytes: &[u8], limit: u32, told: &mu
     ensures no { result ≢ 0 → IsStatus bytes.now limit result }
     ensures stays { result ≢ 0 → told.new ≡ told.old }
 {
-    open_quotient(alloc, bytes, limit, told)
+    match owner(alloc, bytes, limit) {
+        Ok(quotient) => {
+            told.put(alloc, quotient);
+            DONE
+        }
+        Err(status) => status,
+    }
 }
 
 /// Makes a second owner of what is opened, in place of what was opened there.
@@ -32,7 +38,18 @@ pub extern "C" fn misere_share(alloc: Global, opened: &mut Opened, told: &mut Op
     ensures same { opened.new.handle.value ≡ opened.old.handle.value }
     ensures stays { result ≢ 0 → told.new ≡ told.old }
 {
-    share(alloc, opened, told)
+    let Some(quotient) = opened.take(alloc) else {
+        return NOT_OPEN;
+    };
+    let other = another(alloc, &quotient);
+    opened.put(alloc, quotient);
+    match other {
+        Ok(other) => {
+            told.put(alloc, other);
+            DONE
+        }
+        Err(_) => MEMORY,
+    }
 }
 
 /// Closes what is opened: 0, or the number for nothing that is opened.
@@ -42,7 +59,10 @@ pub extern "C" fn misere_close(alloc: Global, opened: &mut Opened) -> u32
     ensures yes { result ≡ 0 → IsOpened opened.old.handle.value (λ c. Unit {0}) }
     ensures no { result ≢ 0 → IsUnopened opened.old.handle.value result }
 {
-    close(alloc, opened)
+    match opened.take(alloc) {
+        Some(_) => DONE,
+        None => NOT_OPEN,
+    }
 }
 
 /// Tells who wins the position of the heaps, as `misere_outcome` does of bytes. It takes no memory.
@@ -58,13 +78,7 @@ pub extern "C" fn misere_opened_outcome(
     ensures same { opened.new.handle.value ≡ opened.old.handle.value }
     ensures stays { result ≢ 0 → told.new ≡ told.old }
 {
-    match outcome(alloc, opened, heaps) {
-        Ok(number) => {
-            *told = number;
-            DONE
-        }
-        Err(status) => status,
-    }
+    tell_opened(alloc, opened, Question::Outcome, heaps, told)
 }
 
 /// Tells the element of the quotient that is the position's. It takes no memory.
@@ -80,13 +94,7 @@ pub extern "C" fn misere_opened_value(
     ensures same { opened.new.handle.value ≡ opened.old.handle.value }
     ensures stays { result ≢ 0 → told.new ≡ told.old }
 {
-    match value(alloc, opened, heaps) {
-        Ok(element) => {
-            *told = element;
-            DONE
-        }
-        Err(status) => status,
-    }
+    tell_opened(alloc, opened, Question::Value, heaps, told)
 }
 
 /// Tells what to do in the position of the heaps: the first winning move, where there is one. Then
@@ -105,9 +113,14 @@ pub extern "C" fn misere_opened_answer(
     ensures same { opened.new.handle.value ≡ opened.old.handle.value }
     ensures stays { result ≢ 0 → told.new ≡ told.old × heaps.new ≡ heaps.old }
 {
-    match answer(alloc, opened, heaps) {
-        Ok(made) => {
-            *told = made;
+    let Some(quotient) = opened.take(alloc) else {
+        return NOT_OPEN;
+    };
+    let answer = answer_in(quotient.certified(), heaps);
+    opened.put(alloc, quotient);
+    match answer {
+        Ok(answer) => {
+            *told = answer;
             DONE
         }
         Err(status) => status,
@@ -131,7 +144,7 @@ pub extern "C" fn misere_opened_outcomes(
     ensures same { opened.new.handle.value ≡ opened.old.handle.value }
     ensures stays { result ≢ 0 → told.new ≡ told.old }
 {
-    outcomes(alloc, opened, heaps, ends, told)
+    tell_all_opened(alloc, opened, Question::Outcome, heaps, ends, told)
 }
 
 /// Tells the element of each of many positions, which stand as for `misere_outcomes`. It takes no
@@ -151,7 +164,7 @@ pub extern "C" fn misere_opened_values(
     ensures same { opened.new.handle.value ≡ opened.old.handle.value }
     ensures stays { result ≢ 0 → told.new ≡ told.old }
 {
-    values(alloc, opened, heaps, ends, told)
+    tell_all_opened(alloc, opened, Question::Value, heaps, ends, told)
 }
 
 /// Tells what to do in each of many positions, which stand as for `misere_outcomes`.
@@ -170,5 +183,10 @@ pub extern "C" fn misere_opened_answers(
     ensures same { opened.new.handle.value ≡ opened.old.handle.value }
     ensures stays { result ≢ 0 → told.new ≡ told.old }
 {
-    answers(alloc, opened, heaps, ends, told)
+    let Some(quotient) = opened.take(alloc) else {
+        return NOT_OPEN;
+    };
+    let status = answer_all_in(alloc, quotient.certified(), heaps, ends, told);
+    opened.put(alloc, quotient);
+    status
 }

@@ -1,13 +1,18 @@
--- What is handed over where a search spells a certificate.
-use Rattle.std.proofs.Common.{◌≡◌, ◌≤◌, ◌∙◌, inl, inr, refl, sym, subst, ℕ, Bool, true, false, List, arith}
+-- What is handed over where a search spells a certificate, and where a check says yes.
+use Rattle.std.proofs.Common.{◌≡◌, ◌≤◌, ◌∙◌, ◌⊎◌, inl, inr, refl, sym, subst, ℕ, Bool, true, false, List, arith}
 use Rattle.std.specs.Prelude.{Ok}
-use Rattle.misere_theory.specs.Certificates.{kind_of}
+use Rattle.misere_theory.specs.Certificates.{Certificate, kind_of}
+use Rattle.answers.specs.ByteVerdicts.{IsTrueOf}
+use Rattle.answers.specs.ByteVerdicts.ByteVerdict.{Yes, Memory}
+use Rattle.check_machine.specs.Turns.{verdict}
 use Rattle.octal_code.specs.Text.{IsCodeText}
 use Rattle.requests.specs.declared.plans.Aim.{Aim}
 use Rattle.requests.specs.declared.plans.Aim.TheVariants.{Whole, Deep, Any, Part, Furthest}
 use Rattle.requests.specs.declared.plans.SolveBounds.{SolveBounds}
 use Rattle.solve_command.specs.Solved.{IsAimedAt, IsSearched, Solves}
-use Rattle.solve_library.specs.Found.{AreBounds, IsAim, IsInRange, IsOfKind, IsUnfound, Tells}
+use Rattle.solve_library.specs.Found.{AreBounds, Certify, IsAim, IsInRange, IsOfKind, IsUnfound, IsUntold, IsUntoldOf, Tells, form_at}
+use Rattle.solve_library.specs.declared.causes.Untold.{Untold}
+use Rattle.solve_library.specs.declared.causes.Untold.TheVariants.{NotInRange}
 use Rattle.solve_library.specs.declared.solving.Asked.{Asked}
 
 -- a certificate of a kind that is aimed at is of the kind that is asked
@@ -44,3 +49,22 @@ pub unfound : (word : List ℕ) (a : Asked) (said : List ℕ) (found : Bool) →
 unfound word a said true e range told = absurd cc
 unfound word a said false e range (bounds, are, why, p) =
     inr (range, inr (inl (refl, (bounds, are, (said, p)))))
+
+-- bytes to which the answer is yes, if it is the verdict's, are certified
+certify : (bytes : List ℕ) (limit : ℕ) (c : Certificate) (says : Certificate → Type 0)
+    → IsTrueOf bytes limit (Yes c) → (Yes c ≡ verdict bytes limit) ⊎ (Yes c ≡ Memory) → says c
+    → Certify bytes limit says
+certify bytes limit c says true_of (inl same) h =
+    let (spells, accepted, only) = true_of.yes c refl in
+    (c, spells, accepted, sym same, h)
+certify bytes limit c says true_of (inr memory) h = absurd cc
+
+-- why no text of them is told
+pub untold-of : (bytes : List ℕ) (limit output form : ℕ) (c : Certificate) → IsTrueOf bytes limit (Yes c)
+    → (Yes c ≡ verdict bytes limit) ⊎ (Yes c ≡ Memory)
+    → (untold : Untold)
+    → ((untold ≡ NotInRange) × (2 ≤ form)) ⊎ IsUntoldOf output (form_at form) c untold
+    → IsUntold bytes limit output form untold
+untold-of bytes limit output form c true_of decided untold (inl h) = inl h
+untold-of bytes limit output form c true_of decided untold (inr h) =
+    inr (inl (certify bytes limit c (λ d. IsUntoldOf output (form_at form) d untold) true_of decided h))

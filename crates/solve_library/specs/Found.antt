@@ -6,11 +6,13 @@ use Rattle.misere_theory.specs.Certificates.{Certificate, Accepted, kind_of}
 use Rattle.octal_code.specs.Text.{IsCodeText}
 use Rattle.certificate_text.specs.Spelling.{Spells}
 use Rattle.answers.specs.ByteVerdicts.{IsTrueOf, refused}
-use Rattle.answers.specs.ByteVerdicts.ByteVerdict.{Yes}
+use Rattle.answers.specs.ByteVerdicts.ByteVerdict.{Yes, Memory}
 use Rattle.answers.specs.Refusals.{refusal_number}
 use Rattle.answers.specs.declared.refusal.Refusal.{Refusal}
 use Rattle.check_machine.specs.Turns.{verdict}
 use Rattle.descriptions.specs.Described.{IsDescription, IsIdealText, IsPresentable}
+use Rattle.descriptions.specs.Presenting.{IsRefusedWord}
+use Rattle.descriptions.specs.declared.presenting.PresentBound.{PresentBound}
 use Rattle.descriptions.specs.declared.systems.System.TheVariants.{Singular, Gap}
 use Rattle.quotient_search.specs.declared.aim.TheConstants.{DEEPEST}
 use Rattle.relations.specs.declared.fault.Undescribed.{Undescribed}
@@ -23,6 +25,8 @@ use Rattle.requests.specs.declared.plans.Aim.TheVariants.{Whole, Deep, Any, Part
 use Rattle.requests.specs.declared.plans.SolveBounds.{SolveBounds}
 use Rattle.requests.specs.declared.ranges.TheConstants.{FEWEST_HEAPS, LARGEST_LIMIT, LEAST_ORDER, MOST_HEAPS, MOST_ROUNDS}
 use Rattle.solve_command.specs.Solved.{IsNoCode, IsSearched, Solves}
+use Rattle.solve_library.specs.declared.causes.Untold.{Untold}
+use Rattle.solve_library.specs.declared.causes.Untold.TheVariants.{NotDescribed, Beyond, NotInRange, Refused, NotOpen}
 use Rattle.solve_library.specs.declared.solving.Asked.{Asked}
 
 -- 0 aims at a full certificate, 1 at that of the heaps 1 to `heaps`, and 2 at that of some first heaps
@@ -124,25 +128,41 @@ abbrev pub IsTextOf : List ℕ → ℕ → ℕ → ℕ → List ℕ → Type 0
 IsTextOf bytes limit output form text =
     Certify bytes limit (λ c. IsTextFor output (form_at form) c text)
 
--- the number of a quotient that isn't described: 9 where memory was refused, else 16
-abbrev pub undescribed_number : Undescribed → ℕ
-undescribed_number (Bound met) = 16
-undescribed_number NoMemory = 9
+-- the number of why no text is told: 16 where the quotient isn't described within a bound
+abbrev pub untold_number : Untold → ℕ
+untold_number (NotDescribed (Bound met)) = 16
+untold_number (NotDescribed NoMemory) = 9
+untold_number (Beyond above) = 16
+untold_number NotInRange = 15
+untold_number (Refused refusal) = refusal_number refusal
+untold_number NotOpen = 17
 
--- The number is that of the verdict on the bytes under the limit, which refuses them, truly.
-abbrev pub IsRefusal : List ℕ → ℕ → ℕ → Type 0
-IsRefusal bytes limit status = (refusal : Refusal Global) × (status ≡ refusal_number refusal)
-    × IsTrueOf bytes limit (refused refusal) × (refused refusal ≡ verdict bytes limit)
+-- the search for relations met a bound, or memory was refused
+abbrev pub IsNotDescribed : Untold → Type 0
+IsNotDescribed untold = (fault : Undescribed) × (untold ≡ NotDescribed fault)
 
--- why no text of a certified quotient is told: there is no such output, or the quotient isn't
--- described, or memory was refused
-abbrev pub IsUntoldOf : ℕ → ℕ → Type 0
-IsUntoldOf output status = ((status ≡ 15) × (6 ≤ output)) ⊎ ((status ≡ 16) ⊎ (status ≡ 9))
+-- the relations of the quotient in this form are above a bound of `present`
+abbrev pub IsBeyondPresent : Form → Certificate → Untold → Type 0
+IsBeyondPresent form c untold =
+    (b : PresentBound) × (untold ≡ Beyond b) × ((word : List ℕ) × IsRefusedWord form c b word)
 
--- Why no text is told: there is no such output or form; or the bytes are certified, and the quotient
--- isn't described; or memory was refused; or the bytes are, by their verdict.
-abbrev pub IsUntold : List ℕ → ℕ → ℕ → ℕ → ℕ → Type 0
-IsUntold bytes limit output form status =
-    ((status ≡ 15) × ((6 ≤ output) ⊎ (2 ≤ form)))
-    ⊎ (((status ≡ 16) × Certify bytes limit (λ c. Unit {0}))
-    ⊎ ((status ≡ 9) ⊎ IsRefusal bytes limit status))
+-- Why no text of a certified quotient is told: the search for relations met a bound, or memory was
+-- refused; the relations are above a bound of `present`; or there is no such output.
+abbrev pub IsUntoldOf : ℕ → Form → Certificate → Untold → Type 0
+IsUntoldOf output form c untold =
+    IsNotDescribed untold
+    ⊎ (((output ≡ 2) × IsBeyondPresent form c untold) ⊎ ((untold ≡ NotInRange) × (6 ≤ output)))
+
+-- The refusal is that of the verdict on the bytes under the limit, truly, or memory was refused.
+abbrev pub IsRefusal : List ℕ → ℕ → Untold → Type 0
+IsRefusal bytes limit untold = (refusal : Refusal Global) × (untold ≡ Refused refusal)
+    × IsTrueOf bytes limit (refused refusal)
+    × ((refused refusal ≡ verdict bytes limit) ⊎ (refused refusal ≡ Memory))
+
+-- Why no text is told: there is no such form; or the bytes are certified, and no text of the quotient
+-- is told; or the bytes are refused.
+abbrev pub IsUntold : List ℕ → ℕ → ℕ → ℕ → Untold → Type 0
+IsUntold bytes limit output form untold =
+    ((untold ≡ NotInRange) × (2 ≤ form))
+    ⊎ (Certify bytes limit (λ c. IsUntoldOf output (form_at form) c untold)
+    ⊎ IsRefusal bytes limit untold)

@@ -1,7 +1,8 @@
 //! The calls.
 ghost use Rattle.std.specs.Prelude.{◌≡◌, ◌≢◌, ◌<◌, ℕ, Bool, List, length, take};
-ghost use Rattle.solve_library.specs.Found.{IsCertificateFor, IsGivenUpFor, IsTextOf, IsUnfound, IsUntold, Tells};
+ghost use Rattle.solve_library.specs.Found.{IsCertificateFor, IsGivenUpFor, IsTextOf, IsUnfound, IsUntold, Tells, untold_number};
 ghost use Rattle.solve_library.specs.Asked.{IsOpenedText, IsOpenedUntold};
+ghost use Rattle.solve_library.specs.declared.causes.Untold.{Untold};
 ghost use Rattle.solve_library.specs.declared.solving.Asked.{Asked};
 
 use crate::describing::described;
@@ -113,7 +114,8 @@ pub extern "C" fn misere_describe(
 ) -> u32
     ensures described { result ≡ 0
         → IsTextOf bytes.now limit output form (take count.new told.new) }
-    ensures no { result ≢ 0 → result ≢ 14 → IsUntold bytes.now limit output form result }
+    ensures no { result ≢ 0 → result ≢ 14
+        → (u : Untold) × (result ≡ untold_number u) × IsUntold bytes.now limit output form u }
     ensures stays { result ≢ 0 → told.new ≡ told.old }
     ensures room { result ≡ 14 → length told.old < count.new }
     ensures counts { result ≡ 14
@@ -122,7 +124,7 @@ pub extern "C" fn misere_describe(
 {
     match described(alloc, bytes, limit, output, form) {
         Ok(text) => hand_over(text.as_bytes(), told, count),
-        Err(status) => status,
+        Err(untold) => untold.number(),
     }
 }
 
@@ -138,7 +140,8 @@ pub extern "C" fn misere_opened_describe(
 ) -> u32
     ensures described { result ≡ 0 → IsOpenedText opened.old.handle.value output form
         (take count.new told.new) }
-    ensures no { result ≢ 0 → result ≢ 14 → IsOpenedUntold opened.old.handle.value output form result }
+    ensures no { result ≢ 0 → result ≢ 14
+        → (u : Untold) × (result ≡ untold_number u) × IsOpenedUntold opened.old.handle.value output form u }
     ensures same { opened.new.handle.value ≡ opened.old.handle.value }
     ensures stays { result ≢ 0 → told.new ≡ told.old }
     ensures room { result ≡ 14 → length told.old < count.new }
@@ -148,6 +151,6 @@ pub extern "C" fn misere_opened_describe(
 {
     match opened_text(alloc, opened, output, form) {
         Ok(text) => hand_over(text.as_bytes(), told, count),
-        Err(status) => status,
+        Err(untold) => untold.number(),
     }
 }

@@ -1,7 +1,9 @@
-//! The finder and the descriptions for C: a static library of calls, to be linked with those of
-//! the checker.
+//! The finder, the descriptions and the certifier for C: a static library of calls, to be linked with
+//! those of the checker.
 #![tactic(auto)]
 
+mod causes;
+mod certifying;
 mod describing;
 mod exports;
 #[cfg(test)]

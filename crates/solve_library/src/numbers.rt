@@ -19,9 +19,6 @@ pub(crate) const NO_ROOM: u32 = 14;
 /// A bound of the search, or a choice, is out of its range.
 pub(crate) const NOT_IN_RANGE: u32 = 15;
 
-/// The quotient is not described within the bounds.
-pub(crate) const NOT_DESCRIBED: u32 = 16;
-
 /// Nothing is opened.
 pub(crate) const NOT_OPEN: u32 = 17;
 

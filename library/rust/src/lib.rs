@@ -27,6 +27,7 @@ mod certificate;
 mod finding;
 mod infinite;
 mod opened;
+mod own;
 mod quotient;
 mod raw;
 mod refusal;
@@ -35,6 +36,7 @@ pub use answers::{Answer, Outcome};
 pub use bounds::LIMIT;
 pub use finding::{Aim, Bounds, NotFound};
 pub use infinite::{InfiniteOutput, InfiniteQuotient};
+pub use own::{NotCertified, OwnTable};
 pub use quotient::{Output, Quotient};
 pub use refusal::Refusal;
 

@@ -5,6 +5,7 @@ use crate::bounds::{LARGEST_HEAP, LIMIT, MOST_BYTES};
 use crate::certificate::{Certificate, read};
 use crate::finding::{Aim, Bounds, NotFound};
 use crate::opened::{Finite, Opened};
+use crate::own::NotCertified;
 use crate::raw;
 use crate::refusal::{Refusal, done};
 use std::fmt;
@@ -78,6 +79,20 @@ impl Quotient {
             Refusal::GAVE_UP => Err(NotFound::GaveUp { why: last_line(&told) }),
             refusal => Err(NotFound::Refused(refusal)),
         }
+    }
+
+    /// The quotient of a table in any numbering of its elements, of which this is the text that `misere certify` reads: an
+    /// [`OwnTable`](crate::OwnTable) displays it. Or it says what is wrong with the table, in its own numbering.
+    pub fn certify(table: impl AsRef<[u8]>, limit: u32) -> Result<Quotient, NotCertified> {
+        let table = table.as_ref();
+        let (status, told) = status_and_told(MOST_BYTES, |told, count| {
+            // SAFETY: each pointer stands with the length of its slice, and `count` is borrowed for the call.
+            unsafe { raw::misere_certify(table.as_ptr(), table.len(), limit, told.as_mut_ptr(), told.len(), count) }
+        });
+        if status == 0 {
+            return Ok(Quotient::check(told, limit)?);
+        }
+        Err(NotCertified { refusal: Refusal(status), lines: String::from_utf8_lossy(&told).into_owned() })
     }
 
     /// The certificate: the one accepted text of its code and kind.

@@ -1,6 +1,6 @@
 //! What the crate tells of samples, beside their texts.
 
-use misere::{Aim, Answer, Bounds, LIMIT, NotFound, Outcome, Output, Quotient, Refusal};
+use misere::{Aim, Answer, Bounds, LIMIT, NotCertified, NotFound, Outcome, Output, OwnTable, Quotient, Refusal};
 use std::path::Path;
 use std::thread;
 
@@ -205,4 +205,23 @@ fn each_thread_asks_a_clone() {
     for thread in threads {
         assert_eq!(thread.join().unwrap(), alone);
     }
+}
+
+#[test]
+fn a_quotient_of_ones_own_is_certified_or_says_what_is_wrong() {
+    // 0.33 with 5 for 0, 4 for 1, and so on
+    let mut rows =
+        [[1, 0, 3, 2, 1, 0], [0, 1, 2, 3, 0, 1], [3, 2, 1, 0, 3, 2], [2, 3, 0, 1, 2, 3], [1, 0, 3, 2, 5, 4], [0, 1, 2, 3, 4, 5]].map(Vec::from);
+    let (heaps, portion) = ([4, 3, 5], [1, 4]);
+    let own = OwnTable { code: "0.33", rows: &rows, heaps: &heaps, period: 3, portion: &portion };
+    assert_eq!(Quotient::certify(own.to_string(), LIMIT), Ok(quotient("0.33")));
+    let part = OwnTable { period: 0, ..own };
+    assert_eq!(Quotient::certify(part.to_string(), LIMIT).unwrap().last_heap(), Some(3));
+    let beyond = OwnTable { portion: &[1, 6], ..own };
+    let refused = |refusal, lines: &str| Err(NotCertified { refusal: Refusal(refusal), lines: lines.to_owned() });
+    assert_eq!(Quotient::certify(beyond.to_string(), LIMIT), refused(1, "no 1 Text line 7\n"));
+    assert_eq!(Quotient::certify(own.to_string(), 1), refused(8, "no 8 Limit\n"));
+    rows[0][1] = 5;
+    let other = OwnTable { code: "0.33", rows: &rows, heaps: &heaps, period: 3, portion: &portion };
+    assert_eq!(Quotient::certify(other.to_string(), LIMIT), refused(2, "no 2 Commutes 0 1\n"));
 }

@@ -14,14 +14,14 @@ loop-at-preserved c =
     let at = c.loop-at.at in
     let C = c.args.certified.now in
     let made = c.loop-at.made.items in
-    let answer = c.in_ok-answer_at.field-0 in
+    let answer = c.in_ok-answer_of.field-0 in
     let i = c.loop-at.invariant in
     let more : c.push.new.self.items ≡ made ++ answer ∷ [] = c.in_ok-push.ensures.items in (
       ap length more ∙ length-append made (answer ∷ []) ∙ ap (λ (n : ℕ). n + 1) i.0,
       subst (λ (told : List MisereAnswer). TellFirst TellsAnswer (at + 1) X ends told C) (sym more)
           (tell_next TellsAnswer X ends made C at answer i.0 i.1
           (subst (λ (from : ℕ). TellsAnswer (take (get_or ends at 0 - from) (drop from X)) answer C)
-          c.start_of.ensures c.in_ok-answer_at.ensures)),
+          c.start_of.ensures c.in_ok-answer_of.ensures)),
     )
 
 pub returns : goal.returns

@@ -1,8 +1,0 @@
-use Rattle.std.proofs.Common.{◌≡◌, length}
-use Rattle.misere_library.specs.Queries.{TellsValue}
-use Rattle.misere_library.specs.Many.{TellFirst}
-use Rattle.misere_library.proofs.many.fill_values.Given as goal
-
-abbrev pub invariant-loop-at : goal.invariant-loop-at
-invariant-loop-at l =
-    (length l.told ≡ length l.ends) × TellFirst TellsValue l.at l.heaps l.ends l.told l.certified
