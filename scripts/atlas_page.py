@@ -19,6 +19,8 @@ sys.dont_write_bytecode = True
 from certificate_lines import LARGEST_ORDER, LARGEST_PART, is_hexadecimal, place_of, words_of
 
 CATALOGUES = ("octal", "hexadecimal")
+# The catalogue of further parts: the families of its codes, two more of them, and how long its texts are at most
+PARTS, FAMILIES_OF_PARTS, MORE_WITH_PARTS, LONGEST_OF_PARTS = "parts", ("0.d", "0.dd"), ("0.007", "0.137"), 1 << 16
 HEADS = ("Code", "Order", "Portion", "Period", "Generators", "Tame or wild", "The same quotient")
 
 
@@ -72,6 +74,22 @@ class Entry:
 
 def entries_of(root: pathlib.Path, name: str) -> list[Entry]:
     return [Entry(entry) for entry in json.loads((root / f"atlas/{name}.json").read_text())["entries"]]
+
+
+def partial_of(root: pathlib.Path) -> dict[str, Entry]:
+    """The entry of each code that has a partial one in place of a full one."""
+    return {it.code: it for name in CATALOGUES for it in entries_of(root, name) if it.heaps}
+
+
+def codes_of_parts(partial: dict[str, Entry]) -> list[str]:
+    """The codes of which the catalogue of parts has one, if it goes further and its text isn't too long."""
+    return [it.code for it in partial.values() if it.family in FAMILIES_OF_PARTS or it.code in MORE_WITH_PARTS]
+
+
+def is_further(partial: dict[str, Entry], code: str, heaps: int, certificate: str) -> bool:
+    """Whether a certificate belongs into the catalogue of parts."""
+    goes_on = code in partial and heaps > partial[code].heaps
+    return goes_on and code in codes_of_parts(partial) and len(certificate) <= LONGEST_OF_PARTS
 
 
 def describe(program: str, entries: Iterable[Entry]) -> None:
@@ -183,6 +201,14 @@ class Page:
         """What a file of the atlas says."""
         yield (self.root / "atlas" / name).read_text().rstrip("\n")
 
+    def parts(self) -> Iterator[str]:
+        """The catalogue of further parts, beside how far the atlas goes with few elements."""
+        partial = partial_of(self.root)
+        yield row(["Code", "Last heap", "Order", "Portion", "With few elements: last heap", "Order"])
+        yield "|---|---|---|---|---|---|"
+        for it in entries_of(self.root, PARTS):
+            yield row([f"`{it.code}`", it.heaps, it.order, it.portion, partial[it.code].heaps, partial[it.code].order])
+
     def rest(self) -> Iterator[str]:
         """How far the partial quotients go."""
         bounds = [(1, 9), (10, 19), (20, 29), (30, 49), (50, 99), (100, LARGEST_PART - 1), (LARGEST_PART, LARGEST_PART)]
@@ -199,7 +225,7 @@ class Page:
     def lines(self) -> Iterator[str]:
         """The lines of the page."""
         for line in (self.root / "atlas/page.md").read_text().splitlines():
-            named = re.fullmatch(r"\{(families|table|described|furthest|listed|file|rest)(?: (\S+))?\}", line)
+            named = re.fullmatch(r"\{(families|table|described|furthest|listed|file|parts|rest)(?: (\S+))?\}", line)
             if named:
                 yield from getattr(self, named[1])(*([named[2]] if named[2] else []))
             else:

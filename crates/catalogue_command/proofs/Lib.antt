@@ -1,2 +1,4 @@
 mod Fronts
+mod KeyCounts
 pub mod LineLemmas
+mod TextLemmas

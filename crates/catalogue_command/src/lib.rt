@@ -8,6 +8,7 @@
 #![tactic(auto)]
 
 mod adding;
+mod counting;
 mod files;
 mod finding;
 mod lines;

@@ -1,7 +1,7 @@
 //! A catalogue file as a table.
 ghost use Rattle.std.specs.Prelude.{◌≡◌, IfErr, IfOk, string_bytes};
 ghost use Rattle.catalogue_command.specs.Stops.{StopsList, failed};
-ghost use Rattle.catalogue_command.specs.Tables.{IsTable, Tables, table_text};
+ghost use Rattle.catalogue_command.specs.Tables.{IsTable, IsTableText, Tables};
 
 use crate::files::read;
 use crate::lines::last_line;
@@ -16,7 +16,7 @@ use std::alloc::Global;
 
 /// The table of the entries, as lines of fields or as an array of JSON.
 fn table_text(alloc: Global, entries: &[Certified], json: bool) -> Result<String, Memory>
-    ensures { IfOk result (λ t. string_bytes t ≡ table_text json entries.now) }
+    ensures { IfOk result (λ t. IsTableText json entries.now (string_bytes t)) }
 {
     if json {
         array_text(alloc, entries)
@@ -42,8 +42,8 @@ fn table_of(alloc: Global, bytes: &[u8], json: bool, limit: u32) -> Result<Said,
     }
 }
 
-/// A table of the entries of the file, whose numbers are those of their certificates, or why it
-/// isn't loaded.
+/// A table of the entries of the file, whose numbers are those of their certificates and of the
+/// quotients that these are, or why it isn't loaded.
 pub fn table<'a, F: Folder>(
     alloc: Global,
     folder: &mut F,

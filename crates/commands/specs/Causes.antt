@@ -9,6 +9,7 @@ use Rattle.compare_command.specs.Compared.{IsCompareCause}
 use Rattle.command_results.specs.Lines.{AreLinesOf, IsLinesCause}
 use Rattle.command_results.specs.Stops.{IsMemory}
 use Rattle.command_results.specs.declared.stop.Stop.{Stop}
+use Rattle.folders.specs.declared.folder.Folder as folder
 use Rattle.play_command.specs.Many.{IsPlayLinesCause}
 use Rattle.play_command.specs.Plays.{IsPlayCause}
 use Rattle.requests.specs.declared.plans.Output.TheVariants.{Relations}
@@ -16,6 +17,7 @@ use Rattle.requests.specs.Requests.{Request}
 use Rattle.requests.specs.Requests.Request.{Check, Solve, SolveMany, SolveLines, Series, Show, Describe, Play, PlayLines, Present, Catalogue, Desk}
 use Rattle.requests.specs.Requests.Request.{Explain, Compare, Certify, SolveInfinite, Infinite, ShowInfinite, PlayInfinite, PlayInfiniteLines}
 use Rattle.solve_command.specs.Solved.{IsSolveCause}
+use Rattle.streams.specs.declared.source.Source as source
 use Rattle.verdict_texts.specs.Streams.{AreKnownAs}
 
 -- How often each device has failed that a command reads or changes.
@@ -24,8 +26,13 @@ pub record Failed : Type 0 where
   pub reads : ℕ
   pub writes : ℕ
 
-abbrev pub failed : ℕ → ℕ → ℕ → Failed
-failed input reads writes = record { input = input; reads = reads; writes = writes }
+-- how often this folder and this standard input have failed, by the ghost members of their traits
+abbrev pub failed : {F S : Type 0} → folder.Ghosts F → source.Ghosts S → F → S → Failed
+failed F S folder input = record {
+  input = S.failures input;
+  reads = F.failed_reads folder;
+  writes = F.failed_writes folder;
+}
 
 -- those of which certificates are read
 abbrev pub given : Failed → check.Failed

@@ -1,11 +1,14 @@
 -- What a run did for a request, seen at its devices. This project's own.
 use Rattle.std.specs.Prelude.{◌≡◌, ℕ, Bool, List, Option}
 use Rattle.catalogue_command.specs.Tasks.{Leaves}
-use Rattle.streams.specs.Printers.{Printer, PrintsLine}
+use Rattle.folders.specs.declared.folder.Folder as folder
+use Rattle.streams.specs.Printers.{Printer, PrintsLine, printer}
+use Rattle.streams.specs.declared.sink.Sink as sink
+use Rattle.streams.specs.declared.source.Source as source
 use Rattle.command_results.specs.Printed.{PrintedWith, status_if}
 use Rattle.command_results.specs.Stops.{stop_line, stop_status}
 use Rattle.command_results.specs.declared.stop.Stop.{Stop}
-use Rattle.commands.specs.Causes.{Failed, IsCause}
+use Rattle.commands.specs.Causes.{Failed, IsCause, failed}
 use Rattle.commands.specs.Responses.{RespondsWith, file_written}
 use Rattle.desk_command.specs.Ends.{EndsScript}
 use Rattle.requests.specs.Requests.{Request}
@@ -20,10 +23,17 @@ pub record Scene : Type 0 where
   pub out : Printer
   pub err : Printer
 
-abbrev pub scene : Option (List ℕ) → Option (List ℕ → Option (List ℕ)) → Failed → Printer → Printer
-    → Scene
-scene input files failed out err =
-    record { input = input; files = files; failed = failed; out = out; err = err }
+-- what can be seen of this folder, standard input, standard output and standard error, by the ghost
+-- members of their traits
+abbrev pub scene : {F S W E : Type 0} → folder.Ghosts F → source.Ghosts S → sink.Ghosts W
+    → sink.Ghosts E → F → S → W → E → Scene
+scene F S W E folder input out err = record {
+  input = S.left input;
+  files = F.files folder;
+  failed = failed F S folder input;
+  out = printer (W.taken out) (W.failures out);
+  err = printer (E.taken err) (E.failures err);
+}
 
 -- What a run did that was asked for this, and ended with this status: it said so, and no file has
 -- changed but the one that the request writes where it ends well; or it stopped before anything was

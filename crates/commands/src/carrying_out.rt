@@ -53,8 +53,8 @@ pub(crate) fn carry_out<'a, F: Folder, S: Source>(
         (F.files folder.new)) }
     ensures kept { OnErr result (F.files folder.new ≡ F.files folder.old) }
     ensures stops { IfErr result (IsCause (S.left input.old) (request_of plan.entry)
-        (failed (S.failures input.old) (F.failed_reads folder.old) (F.failed_writes folder.old))
-        (failed (S.failures input.new) (F.failed_reads folder.new) (F.failed_writes folder.new))) }
+        (failed F.Folder S.Source folder.old input.old)
+        (failed F.Folder S.Source folder.new input.new)) }
     ensures usage { IfErr result (λ stop. stop_status stop ≡ 2 → folder.new ≡ folder.old) }
     ensures input { reads_input (Some (request_of plan.entry)) ≡ false → input.new ≡ input.old }
     ensures folder { takes_files (Some (request_of plan.entry)) ≡ false → folder.new ≡ folder.old }
@@ -91,8 +91,8 @@ fn say<'a, F: Folder, S: Source>(
         (F.files folder.new)) }
     ensures kept { OnErr result (F.files folder.new ≡ F.files folder.old) }
     ensures stops { IfErr result (IsCause (S.left input.old) (request_of plan.entry)
-        (failed (S.failures input.old) (F.failed_reads folder.old) (F.failed_writes folder.old))
-        (failed (S.failures input.new) (F.failed_reads folder.new) (F.failed_writes folder.new))) }
+        (failed F.Folder S.Source folder.old input.old)
+        (failed F.Folder S.Source folder.new input.new)) }
     ensures usage { IfErr result (λ stop. stop_status stop ≡ 2 → folder.new ≡ folder.old) }
     ensures input { reads_input (Some (request_of plan.entry)) ≡ false → input.new ≡ input.old }
     ensures folder { takes_files (Some (request_of plan.entry)) ≡ false → folder.new ≡ folder.old }

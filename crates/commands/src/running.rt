@@ -1,7 +1,6 @@
 //! Plans run to their status.
 ghost use Rattle.std.specs.Prelude.{◌≡◌, ◌≤◌, Some, false};
-ghost use Rattle.streams.specs.Printers.{printer};
-ghost use Rattle.commands.specs.Causes.{failed, notes, reads_input, runs_script, takes_files};
+ghost use Rattle.commands.specs.Causes.{notes, reads_input, runs_script, takes_files};
 ghost use Rattle.commands.specs.Obeys.{Obeys, scene};
 ghost use Rattle.requests.specs.Requests.{request_of};
 
@@ -27,14 +26,8 @@ pub fn run_plan<F: Folder, S: Source, W: Sink, E: Sink>(
     err: &mut E,
 ) -> u8
     ensures obeys { Obeys (request_of plan.entry)
-        (scene (S.left input.old) (F.files folder.old)
-        (failed (S.failures input.old) (F.failed_reads folder.old) (F.failed_writes folder.old))
-        (printer (W.taken out.old) (W.failures out.old))
-        (printer (E.taken err.old) (E.failures err.old)))
-        (scene (S.left input.new) (F.files folder.new)
-        (failed (S.failures input.new) (F.failed_reads folder.new) (F.failed_writes folder.new))
-        (printer (W.taken out.new) (W.failures out.new))
-        (printer (E.taken err.new) (E.failures err.new))) result }
+        (scene F.Folder S.Source W.Sink E.Sink folder.old input.old out.old err.old)
+        (scene F.Folder S.Source W.Sink E.Sink folder.new input.new out.new err.new) result }
     ensures quiet { notes (Some (request_of plan.entry)) ≡ false → result ≤ 1
         → err.new ≡ err.old }
     ensures usage { runs_script (Some (request_of plan.entry)) ≡ false → result ≡ 2

@@ -1,8 +1,6 @@
 //! The status that the program ends with.
 ghost use Rattle.std.specs.Prelude.{map};
 ghost use Rattle.std.specs.Process.{exit_status};
-ghost use Rattle.streams.specs.Printers.{printer};
-ghost use Rattle.commands.specs.Causes.{failed};
 ghost use Rattle.commands.specs.Obeys.{scene};
 ghost use Rattle.whole_runs.specs.Ends.{Ends};
 
@@ -23,14 +21,9 @@ pub fn ended<F: Folder, S: Source, W: Sink, E: Sink, T: AsStr>(
     err: &mut E,
 ) -> ExitCode
     ensures ends { Ends (map T.text words.now)
-        (scene (S.left input.old) (F.files folder.old)
-        (failed (S.failures input.old) (F.failed_reads folder.old) (F.failed_writes folder.old))
-        (printer (W.taken out.old) (W.failures out.old))
-        (printer (E.taken err.old) (E.failures err.old)))
-        (scene (S.left input.new) (F.files folder.new)
-        (failed (S.failures input.new) (F.failed_reads folder.new) (F.failed_writes folder.new))
-        (printer (W.taken out.new) (W.failures out.new))
-        (printer (E.taken err.new) (E.failures err.new))) (exit_status result) }
+        (scene F.Folder S.Source W.Sink E.Sink folder.old input.old out.old err.old)
+        (scene F.Folder S.Source W.Sink E.Sink folder.new input.new out.new err.new)
+        (exit_status result) }
 {
     ExitCode::from(run(alloc, words, folder, input, out, err))
 }

@@ -3,7 +3,7 @@ ghost use Rattle.std.specs.Prelude.{◌≡◌, ◌≤◌, false, IfOk, map};
 ghost use Rattle.command_line.specs.Requests.{plan_of, word_request_of};
 ghost use Rattle.command_line.specs.Status.{status_of, text_of};
 ghost use Rattle.streams.specs.Printers.{PrintsLine, printer};
-ghost use Rattle.commands.specs.Causes.{failed, notes, reads_input, runs_script, takes_files};
+ghost use Rattle.commands.specs.Causes.{notes, reads_input, runs_script, takes_files};
 ghost use Rattle.commands.specs.Obeys.{scene};
 ghost use Rattle.command_results.specs.Stops.{stop_line};
 ghost use Rattle.whole_runs.specs.Ends.{Ends, ExplainsWord};
@@ -58,14 +58,8 @@ fn run_words<F: Folder, S: Source, W: Sink, E: Sink>(
     err: &mut E,
 ) -> u8
     ensures ends { Ends (map (λ w. w.now) words.entry.now)
-        (scene (S.left input.old) (F.files folder.old)
-        (failed (S.failures input.old) (F.failed_reads folder.old) (F.failed_writes folder.old))
-        (printer (W.taken out.old) (W.failures out.old))
-        (printer (E.taken err.old) (E.failures err.old)))
-        (scene (S.left input.new) (F.files folder.new)
-        (failed (S.failures input.new) (F.failed_reads folder.new) (F.failed_writes folder.new))
-        (printer (W.taken out.new) (W.failures out.new))
-        (printer (E.taken err.new) (E.failures err.new))) result }
+        (scene F.Folder S.Source W.Sink E.Sink folder.old input.old out.old err.old)
+        (scene F.Folder S.Source W.Sink E.Sink folder.new input.new out.new err.new) result }
     ensures quiet { notes (plan_of (map (λ w. w.now) words.entry.now)) ≡ false → result ≤ 1
         → err.new ≡ err.old }
     ensures usage { runs_script (plan_of (map (λ w. w.now) words.entry.now)) ≡ false → result ≡ 2
@@ -119,14 +113,8 @@ pub fn run<F: Folder, S: Source, W: Sink, E: Sink, T: AsStr>(
     err: &mut E,
 ) -> u8
     ensures ends { Ends (map T.text words.now)
-        (scene (S.left input.old) (F.files folder.old)
-        (failed (S.failures input.old) (F.failed_reads folder.old) (F.failed_writes folder.old))
-        (printer (W.taken out.old) (W.failures out.old))
-        (printer (E.taken err.old) (E.failures err.old)))
-        (scene (S.left input.new) (F.files folder.new)
-        (failed (S.failures input.new) (F.failed_reads folder.new) (F.failed_writes folder.new))
-        (printer (W.taken out.new) (W.failures out.new))
-        (printer (E.taken err.new) (E.failures err.new))) result }
+        (scene F.Folder S.Source W.Sink E.Sink folder.old input.old out.old err.old)
+        (scene F.Folder S.Source W.Sink E.Sink folder.new input.new out.new err.new) result }
     ensures quiet { notes (plan_of (map T.text words.now)) ≡ false → result ≤ 1
         → err.new ≡ err.old }
     ensures usage { runs_script (plan_of (map T.text words.now)) ≡ false → result ≡ 2

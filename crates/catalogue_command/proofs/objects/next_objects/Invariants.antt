@@ -1,8 +1,7 @@
-use Rattle.std.proofs.Common.{◌≡◌, take, string_bytes}
-use Rattle.std.specs.List.{flat_map}
-use Rattle.catalogue_command.specs.Tables.{next_object}
+use Rattle.std.proofs.Common.{take, string_bytes}
+use Rattle.catalogue_command.specs.Tables.{AreTexts, IsNextObject}
 use Rattle.catalogue_command.proofs.objects.next_objects.Given as goal
 
 abbrev pub invariant-loop-certified : goal.invariant-loop-certified
 invariant-loop-certified l =
-    string_bytes l.text ≡ flat_map next_object (take l.certified-index l.entries)
+    AreTexts IsNextObject (take l.certified-index l.entries) (string_bytes l.text)
