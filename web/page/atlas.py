@@ -7,7 +7,7 @@ ROOT is the project, with its program built, if no other is named: `misere descr
 certificate stands here as its heaps, its portion and what multiplication.py leaves of its products, out of which the
 page makes all of its lines again (certificate_text.js). Nothing is believed of that: the page has each text checked.
 
-Beside the entries of the catalogues there are further parts of games without a full one: those of the samples.
+Beside the entries of the catalogues there are further parts of games without a full one: those of atlas/parts.json.
 """
 import json
 import pathlib
@@ -49,26 +49,17 @@ def quotient(group, number, place):
     return {**certified(group[0]), "kind": group[0].kind, "class": number, "codes": codes}
 
 
-def parts(root, entry_of, entries):
-    """Samples of parts that go further than the catalogues do, where these have no full quotient."""
-    last = {entry.code: entry.heaps for entry in entries}
-    texts = [file.read_text() for file in sorted((root / "certificates").glob("*_heaps_*.mqc"))]
-    found = [entry_of(text) for text in texts]
-    return [{"code": it.code, **certified(it)} for it in found if last.get(it.code) and it.heaps > last[it.code]]
-
-
 def main():
     root, to, *named = map(pathlib.Path, sys.argv[1:])
     sys.path.insert(0, str(root / "scripts"))
-    from atlas_page import Entry, Page
-    from certificate_lines import heaps_of, words_of
+    from atlas_page import PARTS, Page, entries_of
 
     page = Page(root, *(named or [root / "crates/misere/out/misere"]))
     place = {entry.code: at for at, entry in enumerate(page.entries)}
     classes = classes_of([(rows_of(group[0]), numbers(group[0].words["portion"])) for group in page.groups])
     quotients = [quotient(group, number, place) for group, number in zip(page.groups, classes)]
-    entry_of = lambda text: Entry({"code": words_of(text)["code"], "heaps": heaps_of(text), "certificate": text})
-    held = {"quotients": quotients, "parts": parts(root, entry_of, page.entries), "infinite": names_of(root)}
+    parts = [{"code": entry.code, **certified(entry)} for entry in entries_of(root, PARTS)]
+    held = {"quotients": quotients, "parts": parts, "infinite": names_of(root)}
     to.write_text(json.dumps(held, separators=(",", ":")))
     told = f"{len(place)} games, {len(quotients)} quotients, {len(set(classes))} bipartite monoids up to isomorphism"
     print(f"atlas.py: {told}", file=sys.stderr)

@@ -3,6 +3,7 @@
 import {LIMIT} from "../calls.js";
 
 import {make} from "./dom.js";
+import {outcomeByPlays} from "./plays.js";
 import {Failure} from "./prover.js";
 
 /** @type {Record<number, string>} */
@@ -27,6 +28,8 @@ const REASONS = {
   33: "the rule was not seen to hold, and no position was found at which it fails; nothing is proved",
   34: "the claim is right, but its three positions do not show that the quotient is infinite",
 };
+/** The refusal with a position. */
+const OUTCOME = 7;
 /** The refusals that say nothing of the certificate. */
 const NO_VERDICTS = [9, 33];
 
@@ -69,6 +72,20 @@ export function told(failure) {
   if (failure.kind === "stopped") return "Stopped.";
   if (failure.kind === "failed") return `No verdict: the module or its worker failed (${failure.message}).`;
   return `no ${failure.message}: ${REASONS[failure.status ?? 0] ?? "refused"}`;
+}
+
+/**
+ * What is told of a certificate that isn't accepted: of one that fails at a position also who wins that.
+ * @param {unknown} failure
+ * @param {() => string} codeOf the code of the certificate
+ */
+export function toldOfCertificate(failure, codeOf) {
+  if (!(failure instanceof Failure) || failure.status !== OUTCOME || !failure.heaps) return told(failure);
+  const outcome = outcomeByPlays(codeOf(), failure.heaps);
+  const won = outcome === "P" ? "lost for the player to move" : "won by the player to move";
+  return `${told(failure)}. ` +
+      (outcome ? `Its true outcome is ${outcome}, ${won}, by a search of all plays that this page made.` :
+                 "This page doesn’t tell its true outcome, which takes a long search.");
 }
 
 /**

@@ -20,11 +20,13 @@ import {AIMS, soughtOf, soughtWord} from "../page/find/plan.js";
 import {memberOf, writtenOf} from "../page/infinite/family.js";
 import {infiniteName, infiniteOf, infiniteVerdict, isInfinite, speaksOf} from "../page/infinite/fields.js";
 import {readingOf} from "../page/play/reading.js";
+import {outcomeByPlays} from "../page/plays.js";
 import {heapsOfText} from "../page/positions.js";
-import {reasonOf} from "../page/refusals.js";
+import {Failure} from "../page/prover.js";
+import {reasonOf, toldOfCertificate} from "../page/refusals.js";
 import {TERMS} from "../page/terms.js";
 
-import {atlas, infinite, printed, root, sample} from "./setup.js";
+import {atlas, fileOf, infinite, parts, printed, refusedInfinite, root, sample, samples} from "./setup.js";
 
 const folder = process.env.MISERE_HELD ?? path.join(root, "web/out");
 const heldIn = (/** @type {string} */ name) => JSON.parse(readFileSync(path.join(folder, name), "utf8"));
@@ -34,6 +36,7 @@ const heldInfinite = heldIn("infinite.json");
 test("the texts that the page makes again are those of the catalogues", () => {
   assert.equal(made.entries.length, atlas.length);
   for (const {code, bytes} of atlas) assert.equal(made.text(code), new TextDecoder().decode(bytes), code);
+  for (const {code, bytes, last} of parts) assert.equal(made.text(code, last), new TextDecoder().decode(bytes), code);
 });
 
 /**
@@ -251,6 +254,58 @@ test("a position is a list of heaps", () => {
   assert.deepEqual(heapsOfText("2, 5+7 0"), [2n, 5n, 7n]);
   assert.deepEqual(heapsOfText("1000000000000000000"), [10n ** 18n]);
   for (const none of ["1000000000000000001", "-1", "2.5", "two"]) assert.equal(heapsOfText(none), null);
+});
+
+/**
+ * Of a certificate that fails at a position: its code, the position, and its outcome as the program prints it.
+ * @param {string} command
+ * @param {{name: string, bytes: Uint8Array}} it
+ */
+function failureOf(command, {name, bytes}) {
+  const [first, place, outcome] = printed(command, fileOf(bytes, path.basename(name))).split("\n");
+  if (first !== "no 7 Outcome") return [];
+  const [, code] = new TextDecoder().decode(bytes).split("\n")[1].split(" ");
+  return [{code, heaps: heapsOfText(place.replace("rule fails at ", "")) ?? [], outcome}];
+}
+
+test("the true outcome of a position at which a certificate fails is the program's", () => {
+  const failures = [
+    ...samples.flatMap((it) => failureOf("check", it)), ...refusedInfinite.flatMap((it) => failureOf("infinite", it))
+  ];
+  assert.ok(failures.length > 5);
+  for (const {code, heaps, outcome} of failures)
+    assert.equal(`outcome ${outcomeByPlays(code, heaps) ?? "unknown"}`, outcome, code);
+});
+
+/**
+ * @type {[string, (number | bigint)[], "P" | "N" | null][]} In 0.b a position is P where the sum of its heaps is odd.
+ */
+const BY_HAND = [
+  ["0.33", [], "N"],
+  ["0.33", [1], "P"],
+  ["0.33", [1, 1], "N"],
+  ["0.33", [3], "N"],
+  ["0.33", [4], "P"],
+  ["0.33", [2n, 2n], "P"],
+  ["0.33", [1, 2, 2], "N"],
+  ["0.b", [3, 9], "N"],
+  ["0.b", [2, 5, 6], "P"],
+  ["0.75", [10n ** 18n], null],
+  ["0.77", [40, 41], null],
+];
+
+test("outcomes by a search of all plays are those that are found by hand", () => {
+  for (const [code, heaps, outcome] of BY_HAND) assert.equal(outcomeByPlays(code, heaps), outcome, `${code} ${heaps}`);
+});
+
+test("a certificate that fails at a position is told with who wins that", () => {
+  const failing = (/** @type {bigint[]} */ heaps) => new Failure("refused", "7 Outcome", 7, heaps);
+  const [short, long, other] = [[2n, 3n], [10n ** 18n]]
+                                   .map((heaps) => toldOfCertificate(failing(heaps), () => "0.33"))
+                                   .concat(toldOfCertificate(new Failure("refused", "2 Law", 2), () => "0.33"));
+  assert.match(short, /^no 7 Outcome: .* fails at this position\. Its true outcome is N, won by the player to move, /);
+  assert.match(long, /^no 7 Outcome: .* This page doesn’t tell its true outcome/);
+  assert.match(other, /^no 2 Law: [^.]*$/);
 });
 
 test("the reason of a search is told in words", () => {

@@ -45,14 +45,21 @@ export const samples = ["certificates", "certificates/refused"].flatMap((it) => 
 export const sample = (/** @type {string} */ name) =>
     readFileSync(path.join(root, "certificates", name.endsWith(".mqi") ? name : `${name}.mqc`));
 
-/** All entries of both catalogues of the atlas. */
-export const atlas = ["octal", "hexadecimal"].flatMap((name) => {
+/**
+ * All entries of a catalogue of the atlas.
+ * @param {string} name
+ */
+function entriesOf(name) {
   const {entries} = JSON.parse(readFileSync(path.join(root, `atlas/${name}.json`), "utf8"));
   return entries.map((/** @type {any} */ it) => {
     const {code, certificate, heaps} = it;
     return {code, bytes: new TextEncoder().encode(certificate), last: heaps || null};
   });
-});
+}
+
+/** All entries of both catalogues of the atlas, and those of further parts. */
+export const atlas = ["octal", "hexadecimal"].flatMap(entriesOf);
+export const parts = entriesOf("parts");
 
 /** The certificates of infinite quotients: of the atlas, and the samples that are refused. */
 const infiniteIn = (/** @type {string} */ place) =>

@@ -8,7 +8,7 @@ import {isInfinite} from "../infinite/fields.js";
 import {presentInfinite} from "../infinite/present.js";
 import {wordsOf} from "../monoid.js";
 import {Failure} from "../prover.js";
-import {alertOf, isNo, told} from "../refusals.js";
+import {alertOf, isNo, toldOfCertificate} from "../refusals.js";
 
 import {askSection} from "./ask.js";
 import {certificateSection} from "./certificate_section.js";
@@ -53,7 +53,7 @@ export async function present(page, root, bytes) {
     await presentGame(page, root, bytes, certificate, verdict);
   } catch (failure) {
     verdict.classList.add(isNo(failure) ? "no" : "none");
-    fill(verdict, told(failure));
+    fill(verdict, toldOfCertificate(failure, () => fieldsOf(new TextDecoder().decode(bytes)).code));
   }
 }
 

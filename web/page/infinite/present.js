@@ -7,7 +7,7 @@ import {certificateOf} from "../game/certificate_section.js";
 import {ruleSection} from "../game/quotient.js";
 import {Oracle} from "../oracle.js";
 import {MOST_HEAPS_PLAYED} from "../play/bounds.js";
-import {isNo, told} from "../refusals.js";
+import {isNo, toldOfCertificate} from "../refusals.js";
 import {explained} from "../terms.js";
 
 import {familyPicture, memberOf, writtenOf} from "./family.js";
@@ -40,7 +40,7 @@ export async function presentInfinite(page, root, bytes) {
     root.append(...sectionsOf(page, oracle, certificate));
   } catch (failure) {
     verdict.classList.add(isNo(failure) ? "no" : "none");
-    fill(verdict, told(failure));
+    fill(verdict, toldOfCertificate(failure, () => infiniteOf(new TextDecoder().decode(bytes)).code));
   }
 }
 

@@ -39,6 +39,8 @@ def drive(it, program, steps):
         steps.expect(f"a text that is pasted {name}", said.startswith("no " if change[0] else "yes 0.33"), said)
     said = judged(it, lambda: it.one("#spoilt").click())
     steps.expect("the wrong one to try fails at a position", said.startswith("no 7 Outcome at [2, 3]"), said)
+    outcome = "P" if program.move("0.33", "2 3") == "lost" else "N"
+    steps.expect("whose true outcome is told", f"Its true outcome is {outcome}, " in said, said)
     it.picture("check")
     twice = "for (const name of ['sound', 'spoilt']) document.getElementById(name).click()"
     said = judged(it, lambda: it.run(twice))
