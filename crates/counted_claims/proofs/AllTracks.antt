@@ -5,7 +5,8 @@ use Rattle.std.specs.List.{AllByRecursion}
 use Rattle.std.proofs.lemmas.Int.{ints}
 use Rattle.counted_claims.specs.Places.{plus}
 use Rattle.counted_claims.specs.Folds.{Fold, is_signed, IsFold, IsPeriod, ArePeriods, place_down, place_up, finer, all_finer, folded, in_plane, move_down, move_up, move_apart, greatest}
-use Rattle.counted_claims.proofs.Settled.{IsSmall, tops, settled_down, settled_up, down_sign, up_sign, own_down, own_up, still_fold}
+use Rattle.counted_claims.proofs.Settled.{IsSmall, tops, settled_down, settled_up, down_sign, up_sign, still_fold}
+use Rattle.counted_claims.proofs.OwnPlaces.{own_down, own_up}
 
 abbrev pub down_on : Fold → List (List ℤ) → ℕ
 down_on a D = if is_signed a then 0 else greatest move_down D

@@ -5,7 +5,7 @@ use Rattle.std.proofs.lemmas.Int.{ints}
 use Rattle.std.proofs.lemmas.Bool.{true≢false}
 use Rattle.counted_claims.specs.Folds.{Fold, is_signed, IsFold, lesser, taken, folded, in_plane, AreBelowTops}
 use Rattle.counted_claims.proofs.Folds.{AreTaken, taken_are_taken, at_most_top, not_negative}
-use Rattle.counted_claims.proofs.Settled.{no_more}
+use Rattle.counted_claims.proofs.Lesser.{no_more}
 
 pub both_true : (b c : Bool) → (b && c) ≡ true → (b ≡ true) × (c ≡ true)
 both_true true c e = (refl, e)

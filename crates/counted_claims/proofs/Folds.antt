@@ -1,10 +1,10 @@
 -- What a fold takes from counts, and what it leaves of them.
 -- A multiple of the step that is at most a number and by less than a step below it is the only one.
-use Rattle.std.proofs.Common.{◌≡◌, ℕ, suc, ◌+◌, ◌-◌, ◌*◌, ◌/◌, ◌%◌, ◌≤◌, ◌⊎◌, ℤ, pos, neg_ℤ, ◌+ℤ◌, ◌-ℤ◌, ◌≤ℤ◌, ◌<ℤ◌, nat_abs, int_lt, Bool, true, false, refl, sym, ◌∙◌, ap, subst, inl, inr, arith, mod-lt, mod-eq_of_lt, div-add-mod'}
+use Rattle.std.proofs.Common.{◌≡◌, ℕ, suc, ◌+◌, ◌-◌, ◌*◌, ◌/◌, ◌%◌, ◌≤◌, ◌⊎◌, ℤ, pos, neg_ℤ, ◌+ℤ◌, ◌-ℤ◌, ◌≤ℤ◌, ◌<ℤ◌, nat_abs, int_lt, nat_eq, Bool, true, false, refl, sym, ◌∙◌, ap, subst, inl, inr, arith, mod-lt, mod-eq_of_lt, div-add-mod'}
 use Rattle.std.proofs.lemmas.Int.{ints}
 use Rattle.std.proofs.lemmas.Bool.{true≢false}
 use native.Mathlib.Decide.{dec_lt}
-use Rattle.counted_claims.specs.Folds.{whole, taken_of, lesser, rest}
+use Rattle.counted_claims.specs.Folds.{Fold, whole, taken_of, lesser, rest, is_signed, enlarged}
 use Rattle.counted_claims.proofs.Windows.{same_rest, distance, lt_is_true, lt_is_false}
 
 abbrev pub IsMultiple : ℕ → ℤ → Type 0
@@ -262,3 +262,29 @@ module _ (top m : ℕ) (some : 1 ≤ m) where
       by : (b : Bool) → int_lt (pos top) x ≡ b → pos 0 ≤ℤ rest top m x
       by false e = let f = rest_below x (omega (arith, ints)) in omega (arith, ints)
       by true e = let f = (left_above x (omega (arith, ints))).1 in omega (arith, ints)
+
+is_zero : (n : ℕ) → n ≡ 0 → nat_eq n 0 ≡ true
+is_zero n e = rw e refl
+
+no_zero : (n : ℕ) → 1 ≤ n → nat_eq n 0 ≡ false
+no_zero n e = grind arith
+
+signed_zero : (n : ℕ) → nat_eq n 0 ≡ true → n ≡ 0
+signed_zero n e = grind arith
+
+-- a finer fold is of the same kind
+pub kind_kept : (a : Fold) (down up apart n : ℕ) → (is_signed a ≡ true → (down ≡ 0) × (up ≡ 0))
+    → is_signed (enlarged a down up apart n) ≡ is_signed a
+kind_kept a down up apart n h = by (is_signed a) refl
+  where
+    by : (b : Bool) → is_signed a ≡ b → is_signed (enlarged a down up apart n) ≡ is_signed a
+    by true e =
+        let z = signed_zero (a.from_down + a.from_up) e in
+        let s = h e in
+        let d = s.0 in
+        let u = s.1 in
+        is_zero (a.from_down + down + (a.from_up + up)) (omega arith) ∙ sym e
+    by false e = elim (dec_lt 0 (a.from_down + a.from_up)) [
+      | yes l ↦ no_zero (a.from_down + down + (a.from_up + up)) (omega arith) ∙ sym e
+      | no f ↦ absurd (true≢false (sym (is_zero (a.from_down + a.from_up) (omega arith)) ∙ e))
+    ]

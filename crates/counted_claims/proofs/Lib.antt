@@ -5,11 +5,14 @@ pub mod Covering
 pub mod Everywhere
 pub mod Windows
 pub mod Folds
+pub mod Lesser
 pub mod Settled
+pub mod OwnPlaces
 pub mod AllTracks
 pub mod FewPlaces
 pub mod Onward
 pub mod TriedOnTracks
+pub mod NaturalCounts
 pub mod RaysOnTracks
 pub mod Reached
 pub mod Tried

@@ -5,7 +5,7 @@ use Rattle.std.proofs.lemmas.Int.{ints}
 use native.Mathlib.Decide.{dec_lt}
 use Rattle.counted_claims.specs.Folds.{Fold, is_signed, IsFold, taken_of, lesser, taken, rest, place_down, place_up, periods_at_most, IsPlaceAfter}
 use Rattle.counted_claims.proofs.Folds.{AreTaken, taken_are_taken, taken_by_first, taken_by_second, taken_further, same_left, left_alone, left_above, lesser_is}
-use Rattle.counted_claims.proofs.Settled.{lesser-moved, no_less, no_more}
+use Rattle.counted_claims.proofs.Lesser.{lesser-moved, no_less, no_more}
 
 enough_periods : (s n m : ℕ) → 1 ≤ m → n ≤ ((n + (m - 1)) / m + 1) * m
 enough_periods s n m l =

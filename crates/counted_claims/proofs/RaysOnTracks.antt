@@ -1,46 +1,18 @@
 -- A ray that is seen at two places goes on as it is seen there.
 -- Steps that both counts have more are taken; what one count has more then is a multiple of the modulus.
-use Rattle.std.proofs.Common.{◌≡◌, ℕ, zero, suc, ◌+◌, ◌-◌, ◌*◌, ◌≤◌, ℤ, pos, negsuc, ◌+ℤ◌, ◌-ℤ◌, ◌*ℤ◌, ◌≤ℤ◌, Bool, true, false, not, ◌&&◌, ◌||◌, List, [], ◌∷◌, ◌++◌, map, length, refl, sym, ◌∙◌, ap, ap₂, inl, inr, arith}
+use Rattle.std.proofs.Common.{◌≡◌, ℕ, zero, suc, ◌+◌, ◌-◌, ◌*◌, ◌≤◌, ℤ, pos, negsuc, ◌+ℤ◌, ◌-ℤ◌, ◌*ℤ◌, ◌≤ℤ◌, ◌&&◌, List, [], ◌∷◌, ◌++◌, length, refl, sym, ◌∙◌, ap, ap₂, inl, inr, arith}
 use Rattle.std.specs.List.{AllByRecursion}
 use Rattle.std.proofs.lemmas.Int.{ints}
 use native.Mathlib.Decide.{dec_lt}
-use Rattle.counted_claims.specs.Counted.{element, weighed, counted}
+use Rattle.counted_claims.specs.Counted.{element, counted}
 use Rattle.counted_claims.specs.Places.{plus}
 use Rattle.counted_claims.specs.Rays.{repeated, counted_on, along, IsRay}
-use Rattle.counted_claims.specs.Folds.{Fold, is_signed, IsFold, taken_of, lesser, taken, rest, place_down, place_up, folded, in_plane, Track, TrackedClaim, folds_of, weights_on, claim_on_tracks, IsRayTrack, AreRayTracks, IsRayOnTracks}
+use Rattle.counted_claims.specs.Folds.{Fold, is_signed, IsFold, taken_of, lesser, taken, rest, place_down, place_up, folded, TrackedClaim, folds_of, claim_on_tracks, IsRayTrack, AreRayTracks, IsRayOnTracks}
 use Rattle.counted_claims.proofs.Values.{counted-append, counted_are}
-use Rattle.counted_claims.proofs.Windows.{lt_is_false}
 use Rattle.counted_claims.proofs.Folds.{AreTaken, taken_are_taken, taken_by_first, taken_by_second, taken_further, same_left}
-use Rattle.counted_claims.proofs.Settled.{lesser-moved, no_less}
+use Rattle.counted_claims.proofs.Lesser.{lesser-moved, no_less}
+use Rattle.counted_claims.proofs.NaturalCounts.{AreNatural, counts_natural, all_in_plane, natural_along}
 use Rattle.counted_claims.proofs.RaysInWindows.{nowhere, along-more, grown, one_up, up_and_down, at_base}
-
--- what positions count isn't negative
-abbrev pub AreNatural : List ℤ → Type 0
-AreNatural [] = Unit {0}
-AreNatural (x ∷ v) = (pos 0 ≤ℤ x) × AreNatural v
-
-weighed_natural : (w : ℕ → ℕ) (X : List ℕ) → pos 0 ≤ℤ weighed (λ n. pos (w n)) X
-weighed_natural w [] = omega (arith, ints)
-weighed_natural w (n ∷ X) = let l = weighed_natural w X in omega (arith, ints)
-
-pub counts_natural : (ts : List Track) (X : List ℕ) → AreNatural (map (λ w. weighed w X) (weights_on ts))
-counts_natural [] X = tt
-counts_natural (t ∷ ts) X =
-    (weighed_natural t.down X, (weighed_natural t.up X, counts_natural ts X))
-
-pub all_in_plane : (fs : List Fold) (v : List ℤ) → AreNatural v → in_plane fs v ≡ true
-all_in_plane [] v l = refl
-all_in_plane (a ∷ fs) [] l = refl
-all_in_plane (a ∷ fs) (x ∷ []) l = refl
-all_in_plane (a ∷ fs) (x ∷ y ∷ v) l =
-    ap₂ (λ b c. b && c)
-    (ap₂ (λ b c. is_signed a || (not b && not c)) (lt_is_false x (pos 0) l.0)
-    (lt_is_false y (pos 0) l.1.0) ∙ either (is_signed a))
-    (all_in_plane fs v l.1.1)
-  where
-    either : (b : Bool) → (b || true) ≡ true
-    either true = refl
-    either false = refl
 
 module _ (a : Fold) (good : IsFold a) where
   module _
@@ -291,13 +263,6 @@ module _ (step far t : ℕ) (l : far ≤ t) where
   all_far (a ∷ fs) good (x ∷ y ∷ b) (u ∷ []) d r i = absurd r
   all_far (a ∷ fs) good (x ∷ y ∷ b) (u ∷ v ∷ e) [] r i = absurd r
   all_far (a ∷ fs) good (x ∷ y ∷ b) (u ∷ v ∷ e) (w ∷ []) r i = absurd r
-
-natural_along : (b e : List ℤ) (n : ℕ) → AreNatural b → AreNatural e → AreNatural (along b e (pos n))
-natural_along [] e n i j = tt
-natural_along (x ∷ b) [] n i j = tt
-natural_along (x ∷ b) (pos p ∷ e) n i j =
-    (let m = i.0 in omega (arith, ints), natural_along b e n i.1 j.1)
-natural_along (x ∷ b) (negsuc p ∷ e) n i j = absurd (omega (arith, ints, j.0))
 
 along-none : (b e : List ℤ) → length b ≡ length e → along b e (pos 0) ≡ b
 along-none [] e l = refl

@@ -10,7 +10,7 @@ use Rattle.counted_claims.proofs.Windows.{lt_is_false}
 use Rattle.counted_claims.proofs.AllTracks.{first_fold, first_high}
 use Rattle.counted_claims.proofs.FewPlaces.{both_true, not_true}
 use Rattle.counted_claims.proofs.Onward.{onward}
-use Rattle.counted_claims.proofs.RaysOnTracks.{all_in_plane, counts_natural}
+use Rattle.counted_claims.proofs.NaturalCounts.{all_in_plane, counts_natural}
 
 turned : (x : ℤ) (p : ℕ) → x +ℤ pos p ≡ pos p +ℤ x
 turned x p = omega (arith, ints)

@@ -1,64 +1,13 @@
 -- A place of a finer fold settles the place behind a change.
 -- Whole steps that both counts have more are taken, and multiples of the modulus that one count has more.
-use Rattle.std.proofs.Common.{◌≡◌, ℕ, ◌+◌, ◌-◌, ◌*◌, ◌≤◌, ◌⊎◌, ℤ, pos, ◌+ℤ◌, ◌-ℤ◌, ◌≤ℤ◌, ◌<ℤ◌, nat_abs, int_lt, nat_eq, Bool, true, false, refl, sym, ◌∙◌, ap, ap₂, subst, inl, inr, arith}
+use Rattle.std.proofs.Common.{◌≡◌, ℕ, ◌+◌, ◌-◌, ◌*◌, ◌≤◌, ◌⊎◌, ℤ, pos, ◌+ℤ◌, ◌-ℤ◌, ◌≤ℤ◌, ◌<ℤ◌, nat_abs, int_lt, Bool, true, false, refl, sym, ◌∙◌, ap, ap₂, subst, inl, inr, arith}
 use Rattle.std.proofs.lemmas.Int.{ints}
 use Rattle.std.proofs.lemmas.Bool.{true≢false}
 use native.Mathlib.Decide.{dec_lt}
 use Rattle.counted_claims.specs.Folds.{Fold, is_signed, IsFold, IsPeriod, taken_of, lesser, taken, rest, place_down, place_up, enlarged}
 use Rattle.counted_claims.proofs.Windows.{lt_is_false}
-use Rattle.counted_claims.proofs.Folds.{IsAll, AreTaken, taken_are_taken, are_taken_of, lesser_is, taken_by_first, taken_by_second, taken_further, same_left, left_alone, left_above, at_most_top}
-
-is_zero : (n : ℕ) → n ≡ 0 → nat_eq n 0 ≡ true
-is_zero n e = rw e refl
-
-no_zero : (n : ℕ) → 1 ≤ n → nat_eq n 0 ≡ false
-no_zero n e = grind arith
-
-signed_zero : (n : ℕ) → nat_eq n 0 ≡ true → n ≡ 0
-signed_zero n e = grind arith
-
-lesser-shift : (x y z : ℤ) → lesser (x +ℤ z) (y +ℤ z) ≡ lesser x y +ℤ z
-lesser-shift x y z = elim (lesser_is x y) [
-  | inl p ↦ elim (lesser_is (x +ℤ z) (y +ℤ z)) [
-    | inl q ↦ q.0 ∙ ap (λ u. u +ℤ z) (sym p.0)
-    | inr q ↦ let e = p.0 in let f = q.0 in let l = p.1 in let m = q.1 in omega (arith, ints)
-  ]
-  | inr p ↦ elim (lesser_is (x +ℤ z) (y +ℤ z)) [
-    | inl q ↦ let e = p.0 in let f = q.0 in let l = p.1 in let m = q.1 in omega (arith, ints)
-    | inr q ↦ q.0 ∙ ap (λ u. u +ℤ z) (sym p.0)
-  ]
-]
-
-pub lesser-moved : (x y v w z : ℤ) → x ≡ v +ℤ z → y ≡ w +ℤ z → lesser x y ≡ lesser v w +ℤ z
-lesser-moved x y v w z e f = ap₂ lesser e f ∙ lesser-shift v w z
-
-pub no_less : (x y z : ℤ) → z ≤ℤ x → z ≤ℤ y → z ≤ℤ lesser x y
-no_less x y z l m = elim (lesser_is x y) [
-  | inl p ↦ let e = p.0 in omega (arith, ints)
-  | inr p ↦ let e = p.0 in omega (arith, ints)
-]
-
-pub no_more : (x y : ℤ) → (lesser x y ≤ℤ x) × (lesser x y ≤ℤ y)
-no_more x y = elim (lesser_is x y) [
-  | inl p ↦ let e = p.0 in let l = p.1 in (omega (arith, ints), omega (arith, ints))
-  | inr p ↦ let e = p.0 in let l = p.1 in (omega (arith, ints), omega (arith, ints))
-]
-
-pub kind_kept : (a : Fold) (down up apart n : ℕ) → (is_signed a ≡ true → (down ≡ 0) × (up ≡ 0))
-    → is_signed (enlarged a down up apart n) ≡ is_signed a
-kind_kept a down up apart n h = by (is_signed a) refl
-  where
-    by : (b : Bool) → is_signed a ≡ b → is_signed (enlarged a down up apart n) ≡ is_signed a
-    by true e =
-        let z = signed_zero (a.from_down + a.from_up) e in
-        let s = h e in
-        let d = s.0 in
-        let u = s.1 in
-        is_zero (a.from_down + down + (a.from_up + up)) (omega arith) ∙ sym e
-    by false e = elim (dec_lt 0 (a.from_down + a.from_up)) [
-      | yes l ↦ no_zero (a.from_down + down + (a.from_up + up)) (omega arith) ∙ sym e
-      | no f ↦ absurd (true≢false (sym (is_zero (a.from_down + a.from_up) (omega arith)) ∙ e))
-    ]
+use Rattle.counted_claims.proofs.Folds.{AreTaken, taken_are_taken, lesser_is, taken_by_first, taken_by_second, taken_further, same_left, left_alone, left_above, kind_kept}
+use Rattle.counted_claims.proofs.Lesser.{lesser-moved, no_less, no_more}
 
 -- no change is larger: on a signed track what matters is how far it leads apart
 abbrev pub IsSmall : Bool → ℕ → ℕ → ℕ → ℤ → ℤ → Type 0
@@ -348,7 +297,7 @@ module _
         lt_is_false (z +ℤ p) (pos 0) (omega (arith, ints))
         ∙ sym (lt_is_false (x +ℤ p) (pos 0) (omega (arith, ints)))
 
-    left_is : (top from : ℕ) (x : ℤ) → (from + n) ≤ (top + 1)
+    pub left_is : (top from : ℕ) (x : ℤ) → (from + n) ≤ (top + 1)
         → (rest top n x ≡ x) ⊎ ((pos from ≤ℤ rest top n x) × (rest top n x ≤ℤ x))
     left_is top from x l = by (int_lt (pos top) x) refl
       where
@@ -410,126 +359,6 @@ module _
             let l = r.0.1 in
             let m = (no_more (x -ℤ pos fine.from_down) (y -ℤ pos fine.from_up)).1 in
             inr (omega (arith, ints))
-
-  -- a place is its own
-  nothing_taken : (x y : ℤ)
-      → taken fine (place_down fine x y) (place_up fine x y) ≡ pos 0
-  nothing_taken x y =
-      let t = taken fine x y in
-      let s = steps_taken x y in
-      let k = kind_kept a down up apart n kind in
-      are_taken_of a.step good.0 (is_signed fine)
-      (lesser (place_down fine x y -ℤ pos fine.from_down) (place_up fine x y -ℤ pos fine.from_up))
-      (pos 0)
-      (subst
-      (λ g. AreTaken a.step g
-      (lesser (place_down fine x y -ℤ pos fine.from_down) (place_up fine x y -ℤ pos fine.from_up))
-      (pos 0)) (sym k)
-      (none (x -ℤ t) (y -ℤ t) (low_after x y t s) (start_after x y t s)))
-    where
-      low_after : (x y t : ℤ)
-          → AreTaken a.step (is_signed a)
-          (lesser (x -ℤ pos fine.from_down) (y -ℤ pos fine.from_up)) t
-          → ((x -ℤ t) <ℤ pos (fine.from_down + a.step)) ⊎ ((y -ℤ t) <ℤ pos (fine.from_up + a.step))
-      low_after x y t r = one_low (pos 0) (pos 0) (no_move (is_signed a)) x y t r
-        where
-          no_move : (b : Bool) → IsSmall b down up apart (pos 0) (pos 0)
-          no_move b = ((λ _. (omega (arith, ints), omega (arith, ints))), omega (arith, ints))
-
-      start_after : (x y t : ℤ)
-          → AreTaken a.step (is_signed a)
-          (lesser (x -ℤ pos fine.from_down) (y -ℤ pos fine.from_up)) t → is_signed a ≡ true
-          → (pos fine.from_down ≤ℤ (x -ℤ t)) × (pos fine.from_up ≤ℤ (y -ℤ t))
-      start_after x y t (inl r) e =
-          let m = no_more (x -ℤ pos fine.from_down) (y -ℤ pos fine.from_up) in
-          let m0 = m.0 in
-          let m1 = m.1 in
-          let l = r.0.1 in
-          (omega (arith, ints), omega (arith, ints))
-      start_after x y t (inr r) e = absurd (true≢false (sym e ∙ r.0))
-
-      few : (x y : ℤ)
-          → (x <ℤ pos (fine.from_down + a.step)) ⊎ (y <ℤ pos (fine.from_up + a.step))
-          → lesser (rest fine.top_down n x -ℤ pos fine.from_down)
-          (rest fine.top_up n y -ℤ pos fine.from_up) <ℤ pos a.step
-      few x y (inl l) =
-          let t = tops.1 in
-          let e = left_alone fine.top_down n period.0 x (omega (arith, ints)) in
-          let m =
-          (no_more (rest fine.top_down n x -ℤ pos fine.from_down)
-          (rest fine.top_up n y -ℤ pos fine.from_up)).0 in
-          omega (arith, ints)
-      few x y (inr l) =
-          let t = tops.3 in
-          let e = left_alone fine.top_up n period.0 y (omega (arith, ints)) in
-          let m =
-          (no_more (rest fine.top_down n x -ℤ pos fine.from_down)
-          (rest fine.top_up n y -ℤ pos fine.from_up)).1 in
-          omega (arith, ints)
-
-      stays : (top from : ℕ) (x : ℤ) → (from + n) ≤ (top + 1) → pos from ≤ℤ x
-          → pos 0 ≤ℤ (rest top n x -ℤ pos from)
-      stays top from x l m =
-          elim (left_is (pos 0) (pos 0) (no_move (is_signed a)) top from x l) [
-            | inl e ↦ omega (arith, ints)
-            | inr h ↦ let h0 = h.0 in omega (arith, ints)
-          ]
-        where
-          no_move : (b : Bool) → IsSmall b down up apart (pos 0) (pos 0)
-          no_move b = ((λ _. (omega (arith, ints), omega (arith, ints))), omega (arith, ints))
-
-      none : (x y : ℤ)
-          → (x <ℤ pos (fine.from_down + a.step)) ⊎ (y <ℤ pos (fine.from_up + a.step))
-          → (is_signed a ≡ true → (pos fine.from_down ≤ℤ x) × (pos fine.from_up ≤ℤ y))
-          → AreTaken a.step (is_signed a)
-          (lesser (rest fine.top_down n x -ℤ pos fine.from_down)
-          (rest fine.top_up n y -ℤ pos fine.from_up)) (pos 0)
-      none x y s h = by (is_signed a) (int_lt d (pos 0)) refl refl
-        where
-          d : ℤ
-          d =
-              lesser (rest fine.top_down n x -ℤ pos fine.from_down)
-              (rest fine.top_up n y -ℤ pos fine.from_up)
-
-          all : pos 0 ≤ℤ d → IsAll a.step d (pos 0)
-          all l = let f = few x y s in ((0, (0, omega (arith, ints))), l, omega (arith, ints))
-
-          by : (b c : Bool) → is_signed a ≡ b → int_lt d (pos 0) ≡ c
-              → AreTaken a.step (is_signed a) d (pos 0)
-          by true c e f =
-              let g = h e in
-              inl (
-                all
-                    (no_less (rest fine.top_down n x -ℤ pos fine.from_down)
-                    (rest fine.top_up n y -ℤ pos fine.from_up) (pos 0)
-                    (stays fine.top_down fine.from_down x tops.0 g.0)
-                    (stays fine.top_up fine.from_up y tops.2 g.1)),
-                inl e,
-              )
-          by false true e f = inr (e, (omega (arith, ints), refl))
-          by false false e f =
-              let l : pos 0 ≤ℤ d = omega (arith, ints) in inl (all l, inr (l, omega (arith, ints)))
-
-  minus_none : (x t : ℤ) → t ≡ pos 0 → x -ℤ t ≡ x
-  minus_none x t e = omega (arith, ints)
-
-  pub own_down : (x y : ℤ)
-      → place_down fine (place_down fine x y) (place_up fine x y) ≡ place_down fine x y
-  own_down x y =
-      ap (rest fine.top_down n)
-      (minus_none (place_down fine x y) (taken fine (place_down fine x y) (place_up fine x y))
-      (nothing_taken x y))
-      ∙ left_alone fine.top_down n period.0 (place_down fine x y)
-      (at_most_top fine.top_down n period.0 (x -ℤ taken fine x y))
-
-  pub own_up : (x y : ℤ)
-      → place_up fine (place_down fine x y) (place_up fine x y) ≡ place_up fine x y
-  own_up x y =
-      ap (rest fine.top_up n)
-      (minus_none (place_up fine x y) (taken fine (place_down fine x y) (place_up fine x y))
-      (nothing_taken x y))
-      ∙ left_alone fine.top_up n period.0 (place_up fine x y)
-      (at_most_top fine.top_up n period.0 (y -ℤ taken fine x y))
 
   -- the finer fold is a fold
   pub still_fold : IsFold fine
