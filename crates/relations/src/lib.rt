@@ -6,6 +6,7 @@ pub const LARGEST_IRREDUNDANT: usize = 128;
 
 mod basis;
 mod checking;
+mod dividing;
 mod fault;
 mod finding;
 mod generating;
@@ -13,6 +14,7 @@ mod laws;
 mod least;
 mod listing;
 mod powers;
+mod relating;
 mod rewriting;
 mod separating;
 mod shortening;

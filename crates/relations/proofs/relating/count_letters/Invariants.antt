@@ -1,5 +1,5 @@
 use Rattle.std.proofs.Common.{◌*◌, ◌≤◌}
-use Rattle.relations.proofs.separating.count_letters.Given as goal
+use Rattle.relations.proofs.relating.count_letters.Given as goal
 
 abbrev pub invariant-loop-i : goal.invariant-loop-i
 invariant-loop-i l = l.count ≤ 255 * l.i
