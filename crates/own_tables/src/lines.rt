@@ -90,9 +90,9 @@ pub fn field(reader: &mut Reader<'_>, name: &[u8], least: u16, limit: u16) -> Re
     reader.fixed(name)?;
     reader.fixed(b" ")?;
     let x = reader.number(limit)?;
-    reader.fixed(b"\n")?;
     if x < least {
         return Err(TextFault::Text);
     }
+    reader.fixed(b"\n")?;
     Ok(x)
 }
