@@ -7,7 +7,8 @@ use quotient_search::{Halt, Work};
 use running_pairs::{Generators, NONE, at, rest, share};
 use std::alloc::Allocator;
 
-/// The most copies of each of two heaps that are put into a base, and the most rounds of both.
+/// The most copies of each of two heaps that are put into a base, and the most rounds of both where no
+/// step of the fold is longer.
 const MOST_COPIES: usize = 6;
 
 /// How often a ray's step is taken to be far out.
@@ -264,7 +265,8 @@ impl<A: Allocator + Copy> Sketch<'_, A> {
 
     /// A ray, if one is found.
     pub fn ray(&self, work: &mut Work) -> Result<Option<Ray>, Halt> {
-        for round in 1..MOST_COPIES.saturating_add(1) {
+        let most = MOST_COPIES.max(self.shape.fold.step);
+        for round in 1..most.saturating_add(1) {
             let found = self.ray_of_round(round, work)?;
             if found.is_some() {
                 return Ok(found);

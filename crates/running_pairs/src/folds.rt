@@ -57,6 +57,20 @@ impl Fold {
         }
     }
 
+    /// The fold with a step twice as long and the same modulus, from this corner on.
+    pub(crate) fn stretched(self, corner: usize) -> Fold {
+        let step = self.step.saturating_mul(2);
+        let top = corner.saturating_add(step).saturating_add(self.modulus);
+        Fold {
+            down: corner,
+            up: corner,
+            step,
+            down_top: top,
+            up_top: top,
+            modulus: self.modulus,
+        }
+    }
+
     /// The place of counts.
     pub fn place(self, down: usize, up: usize) -> Place {
         let rounds = share(down.saturating_sub(self.down), self.step).min(share(

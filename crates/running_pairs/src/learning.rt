@@ -9,10 +9,14 @@ use crate::splitting::{most_telling, reduced, split, with_letter};
 use quotient_search::{Halt, Work};
 use std::alloc::Allocator;
 
-/// The largest corner of a fold, and its largest top.
+/// The first corner of a fold, the largest one, the largest top, and the longest step.
+pub const CORNER: usize = 2;
+
 const MOST_CORNER: usize = 8;
 
 const MOST_TOP: usize = 24;
+
+pub const MOST_STEP: usize = 12;
 
 /// A guess: a monoid, a fold, the outcomes, and the lightest step at which they fail.
 #[derive(Drop)]
@@ -93,6 +97,24 @@ impl<A: Allocator + Copy> Guess<A> {
         fold
     }
 
+    /// The next fold: a larger one, or one with a longer step if the corner is too large, or none if that
+    /// has no room.
+    fn next_fold(&self, is_falling: bool, states: usize) -> Option<Fold> {
+        let fold = self.grown(is_falling);
+        if fold.down_top > MOST_TOP || fold.up_top > MOST_TOP {
+            return None;
+        }
+        if fold.down <= MOST_CORNER {
+            return Some(fold);
+        }
+        let longer = fold.stretched(CORNER);
+        let count = longer.places().saturating_mul(self.actions.count());
+        if longer.step > MOST_STEP || count > states {
+            return None;
+        }
+        Some(longer)
+    }
+
     /// The monoid that tells the two positions of the step that fails apart, if some letter does.
     fn finer(
         &self,
@@ -129,10 +151,9 @@ impl<A: Allocator + Copy> Guess<A> {
     ) -> Result<(Guess<A>, bool), Halt> {
         let is_falling = self.fails_at(letters, letters.falling);
         if is_falling || self.fails_at(letters, letters.rising) {
-            let fold = self.grown(is_falling);
-            if fold.down > MOST_CORNER || fold.down_top > MOST_TOP || fold.up_top > MOST_TOP {
+            let Some(fold) = self.next_fold(is_falling, states) else {
                 return Ok((self, false));
-            }
+            };
             let Guess { actions, .. } = self;
             let next = Guess::new(alloc, letters, actions, fold, work)?;
             return Ok((next, true));

@@ -14,8 +14,9 @@
 //!    and place has a lightest position, and its outcome follows from those of lighter ones.
 //! 3. A *step* is one heap more beside such a position. It leads to an element and a place whose outcome
 //!    is known. If the rule of misère play says another one, the step *fails*. The lightest step that
-//!    fails says what is too coarse: the fold grows where the heap is one of the pair. Elsewhere two words
-//!    of one element differ in a letter's count, and the monoid is *split* by this count.
+//!    fails says what is too coarse: the fold grows where the heap is one of the pair, and if its corner
+//!    gets large, both counts are lowered together by twice as much. Elsewhere two words of one element
+//!    differ in a letter's count, and the monoid is *split* by this count.
 //! 4. Elements that nothing tells apart are one again, unless a lighter step fails then. So the monoid
 //!    stays small, and the lightest step that fails gets heavier from round to round, until none fails.
 //! 5. If tables show no pair, what all letters do is learned likewise, without a pair, and tables are made

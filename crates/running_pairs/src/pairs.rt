@@ -3,7 +3,7 @@ use crate::actions::{Actions, actions_behind};
 use crate::boxes::{Score, score_of};
 use crate::folds::Fold;
 use crate::generators::{Generators, cycle_of};
-use crate::learning::{Bounds, Guess, learned};
+use crate::learning::{Bounds, CORNER, Guess, MOST_STEP, learned};
 use crate::letters::Letters;
 use crate::numbers::{NONE, at, rest};
 use octal_code::Code;
@@ -36,11 +36,6 @@ const MOST_STATES: usize = 410_000;
 /// Up to how many letters, squared, times elements all pairs are looked at, and else those with the
 /// last heap alone.
 const MOST_SCORES: usize = 100_000;
-
-/// The corner of a first fold, and the most by which its counts are lowered.
-const CORNER: usize = 2;
-
-const MOST_STEP: usize = 12;
 
 /// Two heaps that run against each other: the letters, and a monoid of the others with outcomes at the
 /// places of a fold.
