@@ -29,6 +29,10 @@ const TRY_WORK: u64 = 10_000_000_000;
 
 const RUNNING_WORK: u64 = 60_000_000_000;
 
+/// From which wrong quotient of a part on pairs of heaps are looked for again. With those before it most
+/// parts are right.
+const LATER_GUESS: usize = 2;
+
 /// The most elements of a base.
 const MOST_BASE: usize = 3000;
 
@@ -57,13 +61,14 @@ pub enum Unfound {
     Refused,
 }
 
-/// Where a search is: the part at which guesses are wrong, how many were looked at there, and the leads
-/// in the first one.
+/// Where a search is: the part at which guesses are wrong, how many were looked at there, the leads in the
+/// first one, and the work that is left for pairs of heaps beside later ones.
 #[derive(Drop)]
 struct Part<A: Allocator> {
     heap: usize,
     guesses: usize,
     leads: Vec<usize, A>,
+    later: Work,
 }
 
 /// Looks for a certificate by the heaps that are taken for ones that count.
@@ -110,9 +115,9 @@ fn accepted_by_running<A: SmallAllocator + Copy>(
     quotient: &HeapQuotient<A>,
     last: usize,
     limit: u32,
+    work: &mut Work,
 ) -> Result<Option<Vec<u8, A>>, Halt> {
-    let mut work = Work::new(RUNNING_WORK);
-    match text_by_running(alloc, code, quotient, last, limit, &mut work) {
+    match text_by_running(alloc, code, quotient, last, limit, work) {
         Err(Halt::Memory) => Err(Halt::Memory),
         Ok(text) => Ok(text),
         _ => Ok(None),
@@ -158,6 +163,25 @@ impl<A: SmallAllocator + Copy> Part<A> {
         Ok(None)
     }
 
+    /// Looks for a certificate by two heaps that run against each other, beside the first wrong quotient and
+    /// beside later ones.
+    fn text_by_pairs(
+        &mut self,
+        alloc: A,
+        code: &Code,
+        quotient: &HeapQuotient<A>,
+        limit: u32,
+    ) -> Result<Option<Vec<u8, A>>, Halt> {
+        if self.guesses == 0 {
+            let mut work = Work::new(RUNNING_WORK);
+            return accepted_by_running(alloc, code, quotient, self.heap, limit, &mut work);
+        }
+        if self.guesses >= LATER_GUESS {
+            return accepted_by_running(alloc, code, quotient, self.heap, limit, &mut self.later);
+        }
+        Ok(None)
+    }
+
     /// Looks for a certificate by a wrong quotient of the heaps 1 to `heap`, and takes note of it.
     fn look(
         &mut self,
@@ -173,8 +197,8 @@ impl<A: SmallAllocator + Copy> Part<A> {
             self.leads.clear();
         }
         let mut text = self.text_by(alloc, code, quotient, limit)?;
-        if text.is_none() && self.guesses == 0 {
-            text = accepted_by_running(alloc, code, quotient, heap, limit)?;
+        if text.is_none() {
+            text = self.text_by_pairs(alloc, code, quotient, limit)?;
         }
         if self.guesses == 0 {
             let mut work = Work::new(TRY_WORK);
@@ -196,7 +220,8 @@ fn search_beyond<A: SmallAllocator + Copy>(
 ) -> Result<Result<Vec<u8, A>, Unfound>, Halt> {
     let reached = guesses.quotient().heaps().len();
     let last = reached.saturating_add(1).min(heaps);
-    match accepted_by_running(alloc, code, guesses.quotient(), last, limit)? {
+    let mut work = Work::new(RUNNING_WORK);
+    match accepted_by_running(alloc, code, guesses.quotient(), last, limit, &mut work)? {
         Some(text) => Ok(Ok(text)),
         None => Ok(Err(Unfound::Work { heap: reached })),
     }
@@ -214,6 +239,7 @@ fn search<A: SmallAllocator + Copy>(
         heap: 0,
         guesses: 0,
         leads: Vec::new(alloc),
+        later: Work::new(RUNNING_WORK),
     };
     let mut guesses = Guesses::new(alloc, code, heaps, SEARCH_WORK)?;
     for _ in 0..u64::MAX {
