@@ -89,9 +89,14 @@ impl<A: Allocator> Generators<A> {
 
     /// Makes the heap n a generator.
     pub fn promote(&mut self, n: usize) -> Result<(), Halt> {
+        self.promote_as(n, NONE)
+    }
+
+    /// Makes the heap n a generator with an element.
+    pub fn promote_as(&mut self, n: usize, element: usize) -> Result<(), Halt> {
         put(&mut self.own, n.wrapping_sub(1), self.heaps.len());
         self.heaps.push(n)?;
-        self.elements.push(NONE)?;
+        self.elements.push(element)?;
         Ok(())
     }
 

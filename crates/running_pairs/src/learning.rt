@@ -18,6 +18,11 @@ const MOST_TOP: usize = 24;
 
 pub const MOST_STEP: usize = 12;
 
+/// How many of the last steps are looked at, and at how many of them each of two heaps has to fail.
+const TURNS: usize = 12;
+
+const FEWEST_TURNS: usize = 5;
+
 /// A guess: a monoid, a fold, the outcomes, and the lightest step at which they fail.
 #[derive(Drop)]
 pub struct Guess<A: Allocator> {
@@ -170,13 +175,37 @@ impl<A: Allocator + Copy> Guess<A> {
     }
 }
 
+/// The two heaps at which the last steps fail by turns, if there are two: these may run against each other.
+pub fn taking_turns(turns: &[usize]) -> Option<(usize, usize)> {
+    let from = turns.len().checked_sub(TURNS)?;
+    let one = at(turns, from);
+    let mut other = one;
+    let mut count = 0usize;
+    for place in from..turns.len() {
+        let heap = at(turns, place);
+        if heap == one {
+            count = count.saturating_add(1);
+        } else if other == one {
+            other = heap;
+        } else if heap != other {
+            return None;
+        }
+    }
+    if count < FEWEST_TURNS || TURNS.saturating_sub(count) < FEWEST_TURNS {
+        return None;
+    }
+    Some((one.min(other), one.max(other)))
+}
+
 /// The guess that is learned from a first one, as far as its bounds let it come, and whether it came
-/// to its end: no step fails, or the rounds are over.
+/// to its end: no step fails, or the rounds are over. It ends early if steps fail by turns at two heaps
+/// outside the pair. The heaps at which steps fail are noted.
 pub fn learned<A: Allocator + Copy>(
     alloc: A,
     letters: &mut Letters<A>,
     first: Guess<A>,
     bounds: Bounds,
+    turns: &mut Vec<usize, A>,
     work: &mut Work,
 ) -> Result<(Guess<A>, bool), Halt> {
     let mut guess = first;
@@ -188,6 +217,12 @@ pub fn learned<A: Allocator + Copy>(
         before = guess.failing.weight;
         if guess.fits() {
             break;
+        }
+        turns.push(guess.failing.heap)?;
+        if let Some((one, other)) = taking_turns(turns) {
+            if !letters.has_running(one) && !letters.has_running(other) {
+                return Ok((guess, false));
+            }
         }
         let (next, is_new) = guess.next(alloc, letters, bounds.states, work)?;
         guess = next;

@@ -117,6 +117,11 @@ impl<A: Allocator> Letters<A> {
         letter == self.falling || letter == self.rising
     }
 
+    /// Whether a heap is one of the pair, where there is one.
+    pub fn has_running(&self, heap: usize) -> bool {
+        self.falling != NONE && (self.heap(self.falling) == heap || self.heap(self.rising) == heap)
+    }
+
     /// How often the pair's letters occur in a heap's word.
     pub fn change_of(&self, heap: usize) -> usize {
         let mut down = 0usize;

@@ -3,7 +3,7 @@ use crate::actions::{Actions, actions_behind};
 use crate::boxes::{Score, score_of};
 use crate::folds::Fold;
 use crate::generators::{Generators, cycle_of};
-use crate::learning::{Bounds, CORNER, Guess, MOST_STEP, learned};
+use crate::learning::{Bounds, CORNER, Guess, MOST_STEP, learned, taking_turns};
 use crate::letters::Letters;
 use crate::numbers::{NONE, at, rest};
 use octal_code::Code;
@@ -93,6 +93,8 @@ pub struct RunningPairs<'a, A: Allocator> {
     /// The pairs that were tried, and the one that is to be tried beside all heaps.
     tried: Vec<usize, A>,
     waiting: Option<Pair>,
+    /// The pair that steps show which fail by turns.
+    shown: Option<Pair>,
 }
 
 /// A pair of letters, by their heaps.
@@ -167,6 +169,7 @@ impl<'a, A: Allocator + Copy> RunningPairs<'a, A> {
             is_over: false,
             tried: Vec::new(alloc),
             waiting: None,
+            shown: None,
         })
     }
 
@@ -203,14 +206,14 @@ impl<'a, A: Allocator + Copy> RunningPairs<'a, A> {
     /// What is learned beside a pair, of all heaps or of those that are needed, if no step fails in the
     /// end.
     fn learn(
-        &self,
+        &mut self,
         pair: Pair,
         has_all: bool,
         work: &mut Work,
     ) -> Result<Option<RunningPair<A>>, Halt> {
         let mut letters = letters_of(self.alloc, self.code, self.quotient, self.last, work)?;
-        letters.falling = letters.letter(pair.falling);
-        letters.rising = letters.letter(pair.rising);
+        letters.falling = self.as_letter(&mut letters, pair.falling)?;
+        letters.rising = self.as_letter(&mut letters, pair.rising)?;
         if letters.falling == NONE || letters.rising == NONE {
             return Ok(None);
         }
@@ -222,11 +225,34 @@ impl<'a, A: Allocator + Copy> RunningPairs<'a, A> {
         };
         let actions = actions_of(self.alloc, self.quotient, &letters, work)?;
         let first = Guess::new(self.alloc, &letters, actions, fold, work)?;
-        let (guess, _) = learned(self.alloc, &mut letters, first, self.bounds(), work)?;
+        let bounds = self.bounds();
+        let mut turns: Vec<usize, A> = Vec::new(self.alloc);
+        let (guess, _) = learned(self.alloc, &mut letters, first, bounds, &mut turns, work)?;
         if !guess.fits() {
+            self.note_turns(&turns);
             return Ok(None);
         }
         Ok(Some(RunningPair { letters, guess }))
+    }
+
+    /// Takes note of two heaps at which steps fail by turns: the next pair that is tried.
+    fn note_turns(&mut self, turns: &[usize]) {
+        if let Some((falling, rising)) = taking_turns(turns) {
+            let pair = Pair { falling, rising };
+            if !self.was_tried(pair) {
+                self.shown = Some(pair);
+            }
+        }
+    }
+
+    /// The letter of a heap, which becomes one if it is a word in the quotient.
+    fn as_letter(&self, letters: &mut Letters<A>, heap: usize) -> Result<usize, Halt> {
+        if letters.letter(heap) == NONE {
+            letters
+                .generators
+                .promote_as(heap, self.quotient.heap(heap))?;
+        }
+        Ok(letters.letter(heap))
     }
 
     /// Whether a pair was tried.
@@ -284,7 +310,15 @@ impl<'a, A: Allocator + Copy> RunningPairs<'a, A> {
         let actions = actions_behind(self.alloc, &self.letters, steps, order, 0, work)?;
         let first = Guess::new(self.alloc, &self.letters, actions, Fold::flat(), work)?;
         let letters = &mut self.letters;
-        let (guess, has_room) = learned(self.alloc, letters, first, FIRST_BOUNDS, work)?;
+        let mut turns: Vec<usize, A> = Vec::new(self.alloc);
+        let (guess, has_room) = learned(
+            self.alloc,
+            letters,
+            first,
+            FIRST_BOUNDS,
+            &mut turns,
+            work,
+        )?;
         self.is_over = !has_room || guess.fits();
         let Guess { actions, .. } = guess;
         self.actions = actions;
@@ -334,7 +368,11 @@ impl<'a, A: Allocator + Copy> RunningPairs<'a, A> {
                     return Ok(found);
                 }
             }
-            let Some(pair) = self.next_pair(work)? else {
+            let next = match self.shown.take() {
+                Some(pair) => Some(pair),
+                None => self.next_pair(work)?,
+            };
+            let Some(pair) = next else {
                 return Ok(None);
             };
             self.tried.push(pair.falling)?;
