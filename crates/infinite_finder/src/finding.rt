@@ -1,5 +1,5 @@
 //! The search from a code alone.
-ghost use Rattle.std.specs.Prelude.{◌≡◌, IfOk};
+ghost use Rattle.std.specs.Prelude.{◌≡◌, ◌≤◌, IfOk};
 ghost use Rattle.tracked_text.specs.Said.{Said};
 ghost use Rattle.tracked_text.specs.Spelling.{Spells};
 ghost use Rattle.infinite_answers.specs.Shown.{IsShown};
@@ -10,7 +10,7 @@ use crate::counted::{Counting, Cycles, counted, heap_leads};
 use crate::layout::Layout;
 use crate::outcomes::View;
 use crate::running::text_by_running;
-use crate::trying::{Tries, is_accepted};
+use crate::trying::{Allowed, Tries};
 use allocation::{Memory, SmallAllocator};
 use infinite_answers::{Infinite, InfiniteRefusal};
 use infinite_checker::check_infinite;
@@ -79,12 +79,12 @@ fn text_counting<A: SmallAllocator + Copy>(
     generators: &Generators<A>,
     cycles: &Cycles<A>,
     counted: &[usize],
-    limit: u32,
+    allowed: Allowed,
     tries: usize,
 ) -> Result<Option<Vec<u8, A>>, Halt> {
     let mut work = Work::new(TRY_WORK);
     let base = Base::new(alloc, quotient, generators, counted, &mut work)?;
-    if base.count() > MOST_BASE {
+    if base.count() > MOST_BASE.min(allowed.order) {
         return Ok(None);
     }
     let layout = Layout::new(alloc, &base, generators, counted, &mut work)?;
@@ -102,7 +102,7 @@ fn text_counting<A: SmallAllocator + Copy>(
         view: &view,
         outcomes: &outcomes,
         cycles,
-        limit,
+        allowed,
         left: tries,
     };
     tries.try_all(&mut work)
@@ -114,10 +114,10 @@ fn accepted_by_running<A: SmallAllocator + Copy>(
     code: &Code,
     quotient: &HeapQuotient<A>,
     last: usize,
-    limit: u32,
+    allowed: Allowed,
     work: &mut Work,
 ) -> Result<Option<Vec<u8, A>>, Halt> {
-    match text_by_running(alloc, code, quotient, last, limit, work) {
+    match text_by_running(alloc, code, quotient, last, allowed, work) {
         Err(Halt::Memory) => Err(Halt::Memory),
         Ok(text) => Ok(text),
         _ => Ok(None),
@@ -131,7 +131,7 @@ impl<A: SmallAllocator + Copy> Part<A> {
         alloc: A,
         code: &Code,
         quotient: &HeapQuotient<A>,
-        limit: u32,
+        allowed: Allowed,
     ) -> Result<Option<Vec<u8, A>>, Halt> {
         let mut work = Work::new(TRY_WORK);
         let generators = Generators::new(alloc, quotient, &mut work)?;
@@ -150,7 +150,7 @@ impl<A: SmallAllocator + Copy> Part<A> {
                 &generators,
                 &cycles,
                 &found,
-                limit,
+                allowed,
                 tries,
             );
             match text {
@@ -170,14 +170,14 @@ impl<A: SmallAllocator + Copy> Part<A> {
         alloc: A,
         code: &Code,
         quotient: &HeapQuotient<A>,
-        limit: u32,
+        allowed: Allowed,
     ) -> Result<Option<Vec<u8, A>>, Halt> {
         if self.guesses == 0 {
             let mut work = Work::new(RUNNING_WORK);
-            return accepted_by_running(alloc, code, quotient, self.heap, limit, &mut work);
+            return accepted_by_running(alloc, code, quotient, self.heap, allowed, &mut work);
         }
         if self.guesses >= LATER_GUESS {
-            return accepted_by_running(alloc, code, quotient, self.heap, limit, &mut self.later);
+            return accepted_by_running(alloc, code, quotient, self.heap, allowed, &mut self.later);
         }
         Ok(None)
     }
@@ -189,16 +189,16 @@ impl<A: SmallAllocator + Copy> Part<A> {
         code: &Code,
         quotient: &HeapQuotient<A>,
         heap: usize,
-        limit: u32,
+        allowed: Allowed,
     ) -> Result<Option<Vec<u8, A>>, Halt> {
         if self.heap != heap {
             self.heap = heap;
             self.guesses = 0;
             self.leads.clear();
         }
-        let mut text = self.text_by(alloc, code, quotient, limit)?;
+        let mut text = self.text_by(alloc, code, quotient, allowed)?;
         if text.is_none() {
-            text = self.text_by_pairs(alloc, code, quotient, limit)?;
+            text = self.text_by_pairs(alloc, code, quotient, allowed)?;
         }
         if self.guesses == 0 {
             let mut work = Work::new(TRY_WORK);
@@ -216,12 +216,12 @@ fn search_beyond<A: SmallAllocator + Copy>(
     code: &Code,
     guesses: &Guesses<'_, A>,
     heaps: usize,
-    limit: u32,
+    allowed: Allowed,
 ) -> Result<Result<Vec<u8, A>, Unfound>, Halt> {
     let reached = guesses.quotient().heaps().len();
     let last = reached.saturating_add(1).min(heaps);
     let mut work = Work::new(RUNNING_WORK);
-    match accepted_by_running(alloc, code, guesses.quotient(), last, limit, &mut work)? {
+    match accepted_by_running(alloc, code, guesses.quotient(), last, allowed, &mut work)? {
         Some(text) => Ok(Ok(text)),
         None => Ok(Err(Unfound::Work { heap: reached })),
     }
@@ -233,7 +233,7 @@ fn search<A: SmallAllocator + Copy>(
     alloc: A,
     code: &Code,
     heaps: usize,
-    limit: u32,
+    allowed: Allowed,
 ) -> Result<Result<Vec<u8, A>, Unfound>, Halt> {
     let mut part = Part {
         heap: 0,
@@ -247,9 +247,9 @@ fn search<A: SmallAllocator + Copy>(
             Ok(Some(heap)) => heap,
             Ok(None) => return Ok(Err(Unfound::Finite { heaps })),
             Err(Halt::Memory) => return Err(Halt::Memory),
-            Err(_) => return search_beyond(alloc, code, &guesses, heaps, limit),
+            Err(_) => return search_beyond(alloc, code, &guesses, heaps, allowed),
         };
-        if let Some(text) = part.look(alloc, code, guesses.quotient(), heap, limit)? {
+        if let Some(text) = part.look(alloc, code, guesses.quotient(), heap, allowed)? {
             return Ok(Ok(text));
         }
         if part.guesses > MOST_GUESSES {
@@ -264,9 +264,9 @@ fn searched<A: SmallAllocator + Copy>(
     alloc: A,
     code: &Code,
     heaps: usize,
-    limit: u32,
+    allowed: Allowed,
 ) -> Result<Result<Vec<u8, A>, Unfound>, Memory> {
-    match search(alloc, code, heaps, limit) {
+    match search(alloc, code, heaps, allowed) {
         Ok(found) => Ok(found),
         Err(Halt::Memory) => Err(Memory),
         Err(_) => Ok(Err(Unfound::Work { heap: heaps })),
@@ -274,26 +274,34 @@ fn searched<A: SmallAllocator + Copy>(
 }
 
 /// Looks for a certificate with tracks of the first part, of the heaps 1 to some heap up to `heaps`,
-/// that has no finite quotient. What it hands out was accepted by the check of its bytes, where no more
-/// than `limit` pairs are kept. The work is bounded, and the answer depends on what is asked alone.
+/// that has no finite quotient. What it hands out has at most `order` elements, and was accepted by the
+/// check of its bytes, where no more than `limit` pairs are kept. The work is bounded, and the answer
+/// depends on what is asked alone.
 pub fn find_infinite<A: SmallAllocator + Copy>(
     alloc: A,
     code: &Code,
     heaps: usize,
+    order: u32,
     limit: u32,
 ) -> Result<Result<FoundInfinite<A>, Unfound>, Memory>
     ensures accepted { IfOk result
         (λ found. IfOk found
         (λ f. (c : Said) × Spells f.text.items c × IsKeptOf f.shown c × IsShown c)) }
     ensures code { IfOk result (λ found. IfOk found (λ f. f.shown.claim.code ≡ code.now)) }
+    ensures order { IfOk result (λ found. IfOk found (λ f. f.shown.claim.order ≤ order)) }
 {
-    let text = match searched(alloc, code, heaps, limit)? {
+    let allowed = Allowed {
+        order: order as usize,
+        limit,
+    };
+    let text = match searched(alloc, code, heaps, allowed)? {
         Ok(text) => text,
         Err(why) => return Ok(Err(why)),
     };
     match check_infinite(alloc, &text, limit) {
         Ok(shown) => {
-            if *shown.code() == *code {
+            let is_small = u32::from(shown.claim().order) <= order;
+            if is_small && *shown.code() == *code {
                 Ok(Ok(FoundInfinite { text, shown }))
             } else {
                 Ok(Err(Unfound::Refused))

@@ -263,8 +263,11 @@ impl<A: Allocator + Copy> Sketch<'_, A> {
         Ok(None)
     }
 
-    /// A ray, if one is found.
-    pub fn ray(&self, work: &mut Work) -> Result<Option<Ray>, Halt> {
+    /// A ray, if one is found. None is looked for if there are more elements than `order`.
+    pub fn ray(&self, order: usize, work: &mut Work) -> Result<Option<Ray>, Halt> {
+        if self.elements.order() > order {
+            return Ok(None);
+        }
         let most = MOST_COPIES.max(self.shape.fold.step);
         for round in 1..most.saturating_add(1) {
             let found = self.ray_of_round(round, work)?;

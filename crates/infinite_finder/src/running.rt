@@ -4,7 +4,7 @@ use crate::elements::elements_of;
 use crate::rays::Sketch;
 use crate::shapes::Shape;
 use crate::states::States;
-use crate::trying::is_accepted;
+use crate::trying::{Allowed, is_accepted};
 use allocation::SmallAllocator;
 use octal_code::Code;
 use quotient_search::{Halt, HeapQuotient, Work};
@@ -37,11 +37,12 @@ fn shape_of_pair<A: Allocator + Copy>(alloc: A, pair: &RunningPair<A>) -> Result
     Ok(shape)
 }
 
-/// The text of a pair, if a ray is found.
+/// The text of a pair, if it has at most so many elements and a ray is found.
 fn text_of_pair<A: Allocator + Copy>(
     alloc: A,
     code: &Code,
     pair: &RunningPair<A>,
+    order: usize,
     work: &mut Work,
 ) -> Result<Option<Vec<u8, A>>, Halt> {
     let states = states_of_pair(alloc, pair)?;
@@ -60,7 +61,7 @@ fn text_of_pair<A: Allocator + Copy>(
         states: &states,
         elements: &elements,
     };
-    match sketch.ray(work)? {
+    match sketch.ray(order, work)? {
         Some(ray) => drafted(alloc, code, &sketch, ray, work).map(Some),
         None => Ok(None),
     }
@@ -73,7 +74,7 @@ pub fn text_by_running<A: SmallAllocator + Copy>(
     code: &Code,
     quotient: &HeapQuotient<A>,
     last: usize,
-    limit: u32,
+    allowed: Allowed,
     work: &mut Work,
 ) -> Result<Option<Vec<u8, A>>, Halt> {
     let mut pairs = RunningPairs::new(alloc, code, quotient, last, work)?;
@@ -81,8 +82,8 @@ pub fn text_by_running<A: SmallAllocator + Copy>(
         let Some(pair) = pairs.go_on(work)? else {
             return Ok(None);
         };
-        if let Some(text) = text_of_pair(alloc, code, &pair, work)? {
-            if is_accepted(alloc, &text, limit)? {
+        if let Some(text) = text_of_pair(alloc, code, &pair, allowed.order, work)? {
+            if is_accepted(alloc, &text, allowed.limit)? {
                 return Ok(Some(text));
             }
         }

@@ -31,6 +31,13 @@ const SIGNED: &[(usize, usize, usize)] = &[
     (4, 6, 2),
 ];
 
+/// What a certificate may have: so many elements at most, and in its check so many pairs.
+#[derive(Clone, Copy)]
+pub struct Allowed {
+    pub order: usize,
+    pub limit: u32,
+}
+
 /// Tries of shapes, so many at most.
 #[derive(Drop)]
 pub struct Tries<'a, A: Allocator> {
@@ -38,7 +45,7 @@ pub struct Tries<'a, A: Allocator> {
     pub view: &'a View<'a, A>,
     pub outcomes: &'a Outcomes<A>,
     pub cycles: &'a Cycles<A>,
-    pub limit: u32,
+    pub allowed: Allowed,
     pub left: usize,
 }
 
@@ -137,7 +144,7 @@ impl<A: SmallAllocator + Copy> Tries<'_, A> {
         let Some(text) = self.text_of(shape, work)? else {
             return Ok(None);
         };
-        if is_accepted(self.view.alloc, &text, self.limit)? {
+        if is_accepted(self.view.alloc, &text, self.allowed.limit)? {
             return Ok(Some(text));
         }
         Ok(None)
@@ -159,7 +166,7 @@ impl<A: SmallAllocator + Copy> Tries<'_, A> {
             states: &found,
             elements: &elements,
         };
-        match sketch.ray(work)? {
+        match sketch.ray(self.allowed.order, work)? {
             Some(ray) => {
                 let text = drafted(alloc, self.code, &sketch, ray, work)?;
                 Ok(Some(text))
