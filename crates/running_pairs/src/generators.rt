@@ -93,7 +93,7 @@ impl<A: Allocator> Generators<A> {
     }
 
     /// Makes the heap n a generator with an element.
-    pub fn promote_as(&mut self, n: usize, element: usize) -> Result<(), Halt> {
+    pub(crate) fn promote_as(&mut self, n: usize, element: usize) -> Result<(), Halt> {
         put(&mut self.own, n.wrapping_sub(1), self.heaps.len());
         self.heaps.push(n)?;
         self.elements.push(element)?;

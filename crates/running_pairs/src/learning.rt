@@ -197,6 +197,19 @@ pub fn taking_turns(turns: &[usize]) -> Option<(usize, usize)> {
     Some((one.min(other), one.max(other)))
 }
 
+/// Notes a heap at which a step fails. Answers whether steps fail by turns at two heaps outside the pair.
+fn note_turn<A: Allocator>(
+    letters: &Letters<A>,
+    heap: usize,
+    turns: &mut Vec<usize, A>,
+) -> Result<bool, Halt> {
+    turns.push(heap)?;
+    let Some((one, other)) = taking_turns(turns) else {
+        return Ok(false);
+    };
+    Ok(!letters.has_running(one) && !letters.has_running(other))
+}
+
 /// The guess that is learned from a first one, as far as its bounds let it come, and whether it came
 /// to its end: no step fails, or the rounds are over. It ends early if steps fail by turns at two heaps
 /// outside the pair. The heaps at which steps fail are noted.
@@ -218,11 +231,8 @@ pub fn learned<A: Allocator + Copy>(
         if guess.fits() {
             break;
         }
-        turns.push(guess.failing.heap)?;
-        if let Some((one, other)) = taking_turns(turns) {
-            if !letters.has_running(one) && !letters.has_running(other) {
-                return Ok((guess, false));
-            }
+        if note_turn(letters, guess.failing.heap, turns)? {
+            return Ok((guess, false));
         }
         let (next, is_new) = guess.next(alloc, letters, bounds.states, work)?;
         guess = next;

@@ -24,6 +24,7 @@
 #![tactic(auto)]
 
 mod actions;
+mod beginning;
 mod boxes;
 mod failing;
 mod folds;

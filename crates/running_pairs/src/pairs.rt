@@ -1,5 +1,6 @@
 //! Two heaps that run against each other, and what is learned of all beside them.
 use crate::actions::{Actions, actions_behind};
+use crate::beginning::{actions_of, letters_of};
 use crate::boxes::{Score, score_of};
 use crate::folds::Fold;
 use crate::generators::{Generators, cycle_of};
@@ -115,38 +116,6 @@ fn common(one: usize, other: usize) -> usize {
     NONE
 }
 
-/// The letters of the heaps up to the last one. Those that the quotient lacks change no element.
-fn letters_of<A: Allocator + Copy>(
-    alloc: A,
-    code: &Code,
-    quotient: &HeapQuotient<A>,
-    last: usize,
-    work: &mut Work,
-) -> Result<Letters<A>, Halt> {
-    let mut generators = Generators::new(alloc, quotient, work)?;
-    for _ in quotient.heaps().len()..last {
-        generators.add_free()?;
-    }
-    Letters::new(alloc, code, generators, work)
-}
-
-/// What the letters do in a quotient.
-fn actions_of<A: Allocator + Copy>(
-    alloc: A,
-    quotient: &HeapQuotient<A>,
-    letters: &Letters<A>,
-    work: &mut Work,
-) -> Result<Actions<A>, Halt> {
-    let order = quotient.order();
-    let mut steps: Vec<usize, A> = Vec::new(alloc);
-    for element in 0..order {
-        for by in letters.generators.elements.iter() {
-            steps.push(quotient.times(element, *by))?;
-        }
-    }
-    actions_behind(alloc, letters, &steps, order, 0, work)
-}
-
 impl<'a, A: Allocator + Copy> RunningPairs<'a, A> {
     /// Of a wrong quotient of a code's heaps up to the last one, or of one that lacks the last ones.
     pub fn new(
@@ -203,6 +172,22 @@ impl<'a, A: Allocator + Copy> RunningPairs<'a, A> {
         }
     }
 
+    /// The letters, a pair among them: those of all heaps, or of those that are needed.
+    fn letters_beside(
+        &self,
+        pair: Pair,
+        has_all: bool,
+        work: &mut Work,
+    ) -> Result<Letters<A>, Halt> {
+        let mut letters = letters_of(self.alloc, self.code, self.quotient, self.last, work)?;
+        letters.falling = self.as_letter(&mut letters, pair.falling)?;
+        letters.rising = self.as_letter(&mut letters, pair.rising)?;
+        if !has_all {
+            letters.keep_needed();
+        }
+        Ok(letters)
+    }
+
     /// What is learned beside a pair, of all heaps or of those that are needed, if no step fails in the
     /// end.
     fn learn(
@@ -211,14 +196,9 @@ impl<'a, A: Allocator + Copy> RunningPairs<'a, A> {
         has_all: bool,
         work: &mut Work,
     ) -> Result<Option<RunningPair<A>>, Halt> {
-        let mut letters = letters_of(self.alloc, self.code, self.quotient, self.last, work)?;
-        letters.falling = self.as_letter(&mut letters, pair.falling)?;
-        letters.rising = self.as_letter(&mut letters, pair.rising)?;
+        let mut letters = self.letters_beside(pair, has_all, work)?;
         if letters.falling == NONE || letters.rising == NONE {
             return Ok(None);
-        }
-        if !has_all {
-            letters.keep_needed();
         }
         let Some(fold) = self.first_fold(&letters)? else {
             return Ok(None);
