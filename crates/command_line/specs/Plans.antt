@@ -1,14 +1,15 @@
 -- Plans whose numbers lie in their ranges. This project's own.
 use Rattle.std.specs.Prelude.{⊤, ℕ}
 use Rattle.command_line.specs.Numbers.{IsWithin}
-use Rattle.command_line.specs.declared.numbers.Quantity.TheVariants.{Limit, Rounds, Heaps, Order, Part, DeepOrder, Last, PartOrder, Furthest, SeriesLast}
+use Rattle.command_line.specs.declared.numbers.Quantity.{Quantity}
+use Rattle.command_line.specs.declared.numbers.Quantity.TheVariants.{Limit, Rounds, Heaps, Order, Part, DeepOrder, Last, PartOrder, Furthest, SeriesLast, InfiniteOrder}
 use Rattle.requests.specs.declared.plans.Aim.{Aim}
 use Rattle.requests.specs.declared.plans.Aim.TheVariants as aim
 use Rattle.requests.specs.declared.plans.CatalogueTask.{CatalogueTask}
 use Rattle.requests.specs.declared.plans.CatalogueTask.TheVariants as task
 use Rattle.requests.specs.declared.plans.Plan.{Plan}
 use Rattle.requests.specs.declared.plans.Plan.TheVariants as plan
-use Rattle.requests.specs.declared.plans.SeriesBounds.{SeriesBounds}
+use Rattle.requests.specs.declared.plans.PartsBounds.{PartsBounds}
 use Rattle.requests.specs.declared.plans.SolveBounds.{SolveBounds}
 
 -- each number of a task lies in its range
@@ -35,9 +36,10 @@ abbrev pub AreWithin : SolveBounds → Type 0
 AreWithin bounds = IsWithin Limit bounds.limit × IsWithin Rounds bounds.rounds
     × AimsWithin bounds.aim bounds.order
 
--- each number of a series lies in its range
-abbrev pub AreSeriesWithin : SeriesBounds → Type 0
-AreSeriesWithin bounds = IsWithin Limit bounds.limit × IsWithin DeepOrder bounds.order
+-- each number of a series lies in its range, or of a search for an infinite quotient, where `order`
+-- is the range of the elements that are allowed
+abbrev pub ArePartsWithin : Quantity → PartsBounds → Type 0
+ArePartsWithin order bounds = IsWithin Limit bounds.limit × IsWithin order bounds.order
     × IsWithin SeriesLast bounds.heaps
 
 -- each number lies in its range
@@ -46,9 +48,8 @@ HasNumbersWithin (plan.Check file limit) = IsWithin Limit limit
 HasNumbersWithin (plan.Solve code bounds) = AreWithin bounds
 HasNumbersWithin (plan.SolveMany codes bounds) = AreWithin bounds
 HasNumbersWithin (plan.SolveLines bounds) = AreWithin bounds
-HasNumbersWithin (plan.SolveInfinite code heaps limit) =
-    IsWithin SeriesLast heaps × IsWithin Limit limit
-HasNumbersWithin (plan.Series code bounds) = AreSeriesWithin bounds
+HasNumbersWithin (plan.SolveInfinite code bounds) = ArePartsWithin InfiniteOrder bounds
+HasNumbersWithin (plan.Series code bounds) = ArePartsWithin DeepOrder bounds
 HasNumbersWithin (plan.Show file limit) = IsWithin Limit limit
 HasNumbersWithin (plan.Describe file output basis limit) = IsWithin Limit limit
 HasNumbersWithin (plan.Play file position limit) = IsWithin Limit limit

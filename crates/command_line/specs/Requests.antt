@@ -15,7 +15,7 @@ use Rattle.command_line.specs.declared.faults.Exclusion.TheVariants as exclusion
 use Rattle.command_line.specs.declared.wanted.ExplainedWord.{ExplainedWord}
 use Rattle.command_line.specs.declared.wanted.ExplainedWord.TheVariants as wanted
 use Rattle.command_line.specs.declared.numbers.Quantity.{Quantity}
-use Rattle.command_line.specs.declared.numbers.Quantity.TheVariants.{Limit, Rounds, Heaps, Order, Part, DeepOrder, Last, PartOrder, Furthest, SeriesLast}
+use Rattle.command_line.specs.declared.numbers.Quantity.TheVariants.{Limit, Rounds, Heaps, Order, Part, DeepOrder, Last, PartOrder, Furthest, SeriesLast, InfiniteOrder}
 use Rattle.requests.specs.Requests.{CatalogueRequest, Request}
 use Rattle.requests.specs.Requests.CatalogueRequest.{Print, Table, New, Add, NewWith, Get, Salvage, Migrate}
 use Rattle.requests.specs.Requests.Request.{Check, Solve, SolveMany, SolveLines, Show, Describe, Play, PlayLines, Present, Catalogue, Desk}
@@ -193,27 +193,28 @@ has_several _ = false
 -- one of the options is given that a search for finite quotients takes alone
 abbrev pub asks_for_finite : List Row → Bool
 asks_for_finite rows =
-    is_set (codes "deep") rows || is_set (codes "any") rows || is_set (codes "why") rows
+    is_set (codes "deep") rows || is_set (codes "any") rows
     || is_given (codes "partial") rows || is_given (codes "furthest") rows
-    || is_given (codes "order") rows || is_given (codes "rounds") rows
+    || is_given (codes "rounds") rows
 
 -- --infinite stands with several codes, with those of standard input, or with another option than
--- --heaps and --limit
+-- --heaps, --order, --limit and --why
 abbrev pub infinite_search_conflicts : List Row → Bool
 infinite_search_conflicts rows =
     is_input (first_of (codes "code") rows) || has_several (all_of (codes "code") rows)
     || asks_for_finite rows
 
-abbrev pub infinite_search_with : Option Text → Option ℕ → Option ℕ → Option Request
-infinite_search_with (Some code) (Some last) (Some limit) = Some (SolveInfinite code last limit)
-infinite_search_with _ _ _ = None
+abbrev pub infinite_search_with : Option Text → Option ℕ → Option ℕ → Option ℕ → Option Request
+infinite_search_with (Some code) (Some n) (Some largest) (Some last) =
+    Some (SolveInfinite code (record { limit = n; order = largest; heaps = last }))
+infinite_search_with _ _ _ _ = None
 
 -- a part with an infinite quotient is searched for
 abbrev pub infinite_search_request : List Row → Option Request
 infinite_search_request rows =
     if infinite_search_conflicts rows then None
-    else infinite_search_with (first_of (codes "code") rows) (number_of SeriesLast rows)
-    (number_of Limit rows)
+    else infinite_search_with (first_of (codes "code") rows) (number_of Limit rows)
+    (number_of InfiniteOrder rows) (number_of SeriesLast rows)
 
 -- the series of a code
 abbrev pub series_with : Option Text → Option ℕ → Option ℕ → Option ℕ → Option Request
@@ -446,7 +447,7 @@ abbrev pub infinite_search : Asking
 infinite_search = record {
   app = Program.solve;
   request = infinite_search_request;
-  numbers = λ rows. Limit ∷ SeriesLast ∷ [];
+  numbers = λ rows. Limit ∷ InfiniteOrder ∷ SeriesLast ∷ [];
   conflicts = infinite_search_conflicts;
   exclusion = λ rows. Some exclusion.SolveInfinite;
 }

@@ -127,7 +127,7 @@ need, and orders to 256 by default";
     let furthest =
         "Look for the most heaps 1 to M whose quotient has at most Q elements: 2 to 4096";
     let order = "Propose no quotient of more than Q elements: 2 to 256, by default 64, with \
---deep, --any and --partial 2 to 4096";
+--deep, --any, --partial and --infinite 2 to 4096";
     let why = "Tell why the search is given up";
     let infinite = "Look for a part, the heaps 1 to some n, of which a certificate shows that its \
 quotient is infinite: n to M of --heaps, 1 to 1024, by default 64";

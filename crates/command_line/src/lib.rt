@@ -1,10 +1,13 @@
 //! What a command line asks of the program.
 #![tactic(auto)]
 
+mod arguments;
 mod asking;
 mod commands;
 pub mod faults;
+mod keeping;
 pub mod numbers;
+mod solving;
 mod wanted;
 mod words;
 

@@ -39,7 +39,7 @@ module _ (input : Option (List ℕ)) (before after : Option (List ℕ → Option
   plainly (Solve code bounds) text succeeds h = (h, refl)
   plainly (SolveMany codes bounds) text succeeds h = (h, refl)
   plainly (SolveLines bounds) text succeeds h = (h, refl)
-  plainly (SolveInfinite code heaps limit) text succeeds h = (h, refl)
+  plainly (SolveInfinite code bounds) text succeeds h = (h, refl)
   plainly (Series code bounds) text succeeds h = (h, refl)
   plainly (Show file limit) text succeeds h = (h, refl)
   plainly (Describe file output basis limit) text succeeds h = absurd h
@@ -64,7 +64,7 @@ module _ (input : Option (List ℕ)) (before after : Option (List ℕ → Option
   silent (Solve code bounds) text succeeds told e h = h.1
   silent (SolveMany codes bounds) text succeeds told e h = h.1
   silent (SolveLines bounds) text succeeds told e h = h.1
-  silent (SolveInfinite code heaps limit) text succeeds told e h = h.1
+  silent (SolveInfinite code bounds) text succeeds told e h = h.1
   silent (Series code bounds) text succeeds told e h = h.1
   silent (Show file limit) text succeeds told e h = h.1
   silent (Describe file output basis limit) text succeeds told e h =

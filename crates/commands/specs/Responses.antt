@@ -38,8 +38,8 @@ Says input before after (SolveMany codes bounds) text succeeds =
     AnswersCodes bounds codes text succeeds
 Says input before after (SolveLines bounds) text succeeds =
     SolvesLines (AreLinesOf input) bounds text succeeds
-Says input before after (SolveInfinite code heaps limit) text succeeds =
-    IsFound code text succeeds
+Says input before after (SolveInfinite code bounds) text succeeds =
+    IsFound code bounds text succeeds
 Says input before after (Series code bounds) text succeeds = IsSeries code bounds text succeeds
 Says input before after (Show file limit) text succeeds =
     Shows (AreGiven input before file) limit text succeeds

@@ -131,7 +131,7 @@ fn say<'a, F: Folder, S: Source>(
         Plan::Solve { code, bounds } => solve(alloc, code, bounds),
         Plan::SolveMany { codes, bounds } => solve_many(alloc, &codes, bounds),
         Plan::SolveLines { bounds } => solve_lines(alloc, bounds, input),
-        Plan::SolveInfinite { code, heaps, limit } => solve_infinite(alloc, code, heaps, limit),
+        Plan::SolveInfinite { code, bounds } => solve_infinite(alloc, code, bounds),
         Plan::Series { code, bounds } => series(alloc, code, bounds),
         Plan::Catalogue { file, task, limit } => act(alloc, folder, file, task, limit),
         Plan::Describe { .. } | Plan::Desk { .. } => unreachable!(),

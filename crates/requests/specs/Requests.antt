@@ -6,7 +6,7 @@ use Rattle.requests.specs.declared.plans.Layout.{Layout}
 use Rattle.requests.specs.declared.plans.Output.{Output}
 use Rattle.requests.specs.declared.plans.Plan.{Plan}
 use Rattle.requests.specs.declared.plans.Plan.TheVariants as plan
-use Rattle.requests.specs.declared.plans.SeriesBounds.{SeriesBounds}
+use Rattle.requests.specs.declared.plans.PartsBounds.{PartsBounds}
 use Rattle.requests.specs.declared.plans.SolveBounds.{SolveBounds}
 
 -- what is asked of a catalogue
@@ -26,8 +26,8 @@ pub data Request : Type 0 where
   Solve : List ℕ → SolveBounds → Request
   SolveMany : List (List ℕ) → SolveBounds → Request
   SolveLines : SolveBounds → Request
-  SolveInfinite : List ℕ → ℕ → ℕ → Request
-  Series : List ℕ → SeriesBounds → Request
+  SolveInfinite : List ℕ → PartsBounds → Request
+  Series : List ℕ → PartsBounds → Request
   Show : Option (List ℕ) → ℕ → Request
   Describe : Option (List ℕ) → Output → Bool → ℕ → Request
   Play : Option (List ℕ) → List ℕ → ℕ → Request
@@ -60,7 +60,7 @@ request_of (plan.Check file limit) = Check (option_map (λ f. f.now) file) limit
 request_of (plan.Solve code bounds) = Solve code.now bounds
 request_of (plan.SolveMany codes bounds) = SolveMany (map (λ c. c.now) codes.items) bounds
 request_of (plan.SolveLines bounds) = SolveLines bounds
-request_of (plan.SolveInfinite code heaps limit) = SolveInfinite code.now heaps limit
+request_of (plan.SolveInfinite code bounds) = SolveInfinite code.now bounds
 request_of (plan.Series code bounds) = Series code.now bounds
 request_of (plan.Show file limit) = Show (option_map (λ f. f.now) file) limit
 request_of (plan.Describe file output basis limit) =

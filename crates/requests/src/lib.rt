@@ -4,7 +4,7 @@
 mod plans;
 mod ranges;
 
-pub use plans::{Aim, CatalogueTask, Layout, Output, Plan, SeriesBounds, SolveBounds};
+pub use plans::{Aim, CatalogueTask, Layout, Output, PartsBounds, Plan, SolveBounds};
 pub use ranges::{
     DEFAULT_HEAPS, DEFAULT_LIMIT, DEFAULT_ORDER, DEFAULT_ROUNDS, DEFAULT_SERIES, FEWEST_HEAPS,
     LARGEST_LIMIT, LEAST_ORDER, MOST_HEAPS, MOST_ROUNDS,

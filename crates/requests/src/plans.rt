@@ -31,12 +31,13 @@ pub struct SolveBounds {
     pub tells_why: bool,
 }
 
-/// How far a series goes.
+/// How far the parts of a game are looked at, one after another: in a series, or in a search for an
+/// infinite quotient.
 #[derive(Clone, Copy, Debug, PartialEq, Eq)]
-pub struct SeriesBounds {
+pub struct PartsBounds {
     /// How many members the closure of each check may ever keep.
     pub limit: u32,
-    /// The most elements that a quotient may have.
+    /// The most elements that a quotient may have, or a certificate beside its tracks.
     pub order: u32,
     /// The last heap.
     pub heaps: u32,
@@ -65,17 +66,16 @@ pub enum Plan<'a> {
     SolveLines {
         bounds: SolveBounds,
     },
-    /// Look for a part of the code's game, the heaps 1 to some n that is at most `heaps`, of which a
-    /// certificate shows under the limit that its quotient is infinite.
+    /// Look for a part of the code's game, the heaps 1 to some n, of which a certificate shows that its
+    /// quotient is infinite.
     SolveInfinite {
         code: &'a str,
-        heaps: u32,
-        limit: u32,
+        bounds: PartsBounds,
     },
     /// Print how many elements the quotients of the first heaps of a code have.
     Series {
         code: &'a str,
-        bounds: SeriesBounds,
+        bounds: PartsBounds,
     },
     /// Print the quotient that the file certifies under the limit, or standard input where no file
     /// is named.

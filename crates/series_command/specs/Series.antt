@@ -5,7 +5,7 @@ use Rattle.misere_theory.specs.Certificates.{Certificate, Accepted, kind_of}
 use Rattle.misere_theory.specs.Games.{HeapOption, Indistinguishable, IsHeapUpTo, IsPosition}
 use Rattle.octal_code.specs.Text.{IsCodeText}
 use Rattle.requests.specs.declared.plans.Aim.TheVariants.{Part}
-use Rattle.requests.specs.declared.plans.SeriesBounds.{SeriesBounds}
+use Rattle.requests.specs.declared.plans.PartsBounds.{PartsBounds}
 use Rattle.requests.specs.declared.plans.SolveBounds.{SolveBounds}
 use Rattle.requests.specs.declared.ranges.TheConstants.{DEFAULT_ROUNDS}
 use Rattle.solve_command.specs.Solved.{WasGivenUp}
@@ -27,7 +27,7 @@ pub data HasOrder (code : List ℕ) (most n order : ℕ) : Type 0 where
       → Indistinguishable (IsHeapUpTo n) code X Y) → order ≡ 1 → HasOrder code most n order
 
 -- how far the search for the quotient of the heaps 1 to n goes
-abbrev pub part_of : SeriesBounds → ℕ → SolveBounds
+abbrev pub part_of : PartsBounds → ℕ → SolveBounds
 part_of bounds n =
     record {
       limit = bounds.limit;
@@ -38,11 +38,11 @@ part_of bounds n =
     }
 
 -- a move is possible in the heaps 1 to n, and the search for their quotient was given up
-abbrev pub IsUnfound : List ℕ → SeriesBounds → ℕ → Type 0
+abbrev pub IsUnfound : List ℕ → PartsBounds → ℕ → Type 0
 IsUnfound code bounds n = WasGivenUp code (part_of bounds n) × (AreStill code n → ⊥)
 
 -- how many elements the quotient of the heaps 1 to n has, or that it isn't found
-abbrev pub IsOrder : List ℕ → SeriesBounds → ℕ → Option ℕ → Type 0
+abbrev pub IsOrder : List ℕ → PartsBounds → ℕ → Option ℕ → Type 0
 IsOrder code bounds n (Some order) = HasOrder code bounds.order n order
 IsOrder code bounds n None = IsUnfound code bounds n
 
@@ -58,12 +58,12 @@ pub data AreOrders (code : List ℕ) (most : ℕ) : ℕ → List ℕ → Type 0 
       → AreOrders code most (n + 1) (text ++ order_line (n + 1) order)
 
 -- the series ends with the last heap that is asked, or before the first quotient that isn't found
-pub data EndsWith (code : List ℕ) (bounds : SeriesBounds) (n : ℕ) : Type 0 where
+pub data EndsWith (code : List ℕ) (bounds : PartsBounds) (n : ℕ) : Type 0 where
   AtLast : n ≡ bounds.heaps → EndsWith code bounds n
   Unfound : IsUnfound code bounds (n + 1) → EndsWith code bounds n
 
 -- The series of a code, which ends well if it has a line.
-pub record HasSeries (code : List ℕ) (bounds : SeriesBounds) (text : List ℕ) (succeeds : Bool)
+pub record HasSeries (code : List ℕ) (bounds : PartsBounds) (text : List ℕ) (succeeds : Bool)
     : Type 0 where
   pub n : ℕ
   pub orders : AreOrders code bounds.order n text
@@ -71,6 +71,6 @@ pub record HasSeries (code : List ℕ) (bounds : SeriesBounds) (text : List ℕ)
   pub well : succeeds ≡ nat_lt 0 n
 
 -- the word is a code's, and the text is its series
-abbrev pub IsSeries : List ℕ → SeriesBounds → List ℕ → Bool → Type 0
+abbrev pub IsSeries : List ℕ → PartsBounds → List ℕ → Bool → Type 0
 IsSeries word bounds text succeeds = (code : List ℕ) × IsCodeText word code
     × HasSeries code bounds text succeeds

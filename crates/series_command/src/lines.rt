@@ -6,7 +6,7 @@ use crate::orders::order_of;
 use allocation::Memory;
 use command_results::Said;
 use octal_code::Code;
-use requests::SeriesBounds;
+use requests::PartsBounds;
 use std::alloc::Global;
 
 /// The line of the heaps 1 to `last`.
@@ -18,7 +18,7 @@ fn order_line(alloc: Global, last: u32, order: u16) -> Result<String, Memory>
 }
 
 /// The lines from heap 1 on, as far as quotients are found.
-pub(crate) fn order_lines(alloc: Global, code: &Code, bounds: SeriesBounds) -> Result<Said, Memory>
+pub(crate) fn order_lines(alloc: Global, code: &Code, bounds: PartsBounds) -> Result<Said, Memory>
     ensures { IfOk result (λ s. HasSeries code.now bounds s.text.items s.succeeds) }
 {
     let mut text = Vec::new(alloc);

@@ -6,12 +6,12 @@ use crate::laws::still_heaps_have_one_class;
 use crate::still::are_still;
 use allocation::Memory;
 use octal_code::Code;
-use requests::{Aim, DEFAULT_ROUNDS, SeriesBounds};
+use requests::{Aim, DEFAULT_ROUNDS, PartsBounds};
 use solve_command::{SolveBounds, certificate_for};
 use std::alloc::Global;
 
 /// How far the search for the quotient of the heaps 1 to `last` goes.
-fn part_of(bounds: SeriesBounds, last: u32) -> SolveBounds
+fn part_of(bounds: PartsBounds, last: u32) -> SolveBounds
     ensures { result ≡ part_of bounds last }
 {
     SolveBounds {
@@ -28,7 +28,7 @@ pub(crate) fn order_of(
     alloc: Global,
     code: &Code,
     last: u32,
-    bounds: SeriesBounds,
+    bounds: PartsBounds,
 ) -> Result<Option<u16>, Memory>
     ensures { IfOk result (IsOrder code.now bounds last) }
 {

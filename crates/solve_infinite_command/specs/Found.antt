@@ -1,5 +1,6 @@
 -- What a search for a certificate of an infinite quotient says. This project's own.
-use Rattle.std.specs.Prelude.{◌≡◌, ℕ, Bool, true, false, List, ◌++◌, codes, decimal}
+use Rattle.std.specs.Prelude.{◌≡◌, ◌≤◌, ℕ, Bool, true, false, List, ◌++◌, length, codes, decimal}
+use Rattle.requests.specs.declared.plans.PartsBounds.{PartsBounds}
 use Rattle.octal_code.specs.Text.{IsCodeText}
 use Rattle.tracked_text.specs.Said.{Said}
 use Rattle.tracked_text.specs.Spelling.{Spells}
@@ -18,13 +19,19 @@ reason_line (Work heap) =
     codes "gave up: to heap " ++ decimal heap ++ codes " the work that is allowed was done\n"
 reason_line Refused = codes "gave up: what was found was refused by the check\n"
 
+-- It speaks of no heap after the last that was to be looked at, and has no more elements than are
+-- allowed.
+abbrev pub IsAllowed : PartsBounds → Said → Type 0
+IsAllowed bounds c = (length c.elements ≤ bounds.heaps) × (c.order ≤ bounds.order)
+
 -- The text is that of a certificate of the code, and what it says is right: the misère quotient of its
 -- heaps is infinite. Or it says why none was found, and nothing is claimed.
-pub data Finds (code : List ℕ) : List ℕ → Bool → Type 0 where
+pub data Finds (code : List ℕ) (bounds : PartsBounds) : List ℕ → Bool → Type 0 where
   Found : {text : List ℕ} (c : Said) → Spells text c → IsShown c → c.code ≡ code
-      → Finds code text true
-  GaveUp : {text : List ℕ} (why : Unfound) → text ≡ reason_line why → Finds code text false
+      → IsAllowed bounds c → Finds code bounds text true
+  GaveUp : {text : List ℕ} (why : Unfound) → text ≡ reason_line why → Finds code bounds text false
 
 -- the word is a code's, and this is found of it
-abbrev pub IsFound : List ℕ → List ℕ → Bool → Type 0
-IsFound word text succeeds = (code : List ℕ) × IsCodeText word code × Finds code text succeeds
+abbrev pub IsFound : List ℕ → PartsBounds → List ℕ → Bool → Type 0
+IsFound word bounds text succeeds =
+    (code : List ℕ) × IsCodeText word code × Finds code bounds text succeeds

@@ -7,6 +7,7 @@ use allocation::Memory;
 use command_results::{Said, Stop};
 use infinite_finder::{FoundInfinite, Unfound, find_infinite};
 use octal_code::Code;
+use requests::PartsBounds;
 use std::alloc::Global;
 
 /// Why none was found, in a line.
@@ -31,41 +32,39 @@ fn reason_line(alloc: Global, why: Unfound) -> Result<String, Memory>
 }
 
 /// Looks for a certificate of the code, and says it, or why none was found.
-fn found(alloc: Global, code: &Code, heaps: u32, limit: u32) -> Result<Said, Memory>
-    ensures { IfOk result (λ s. Finds code.now s.text.items s.succeeds) }
+fn found(alloc: Global, code: &Code, bounds: PartsBounds) -> Result<Said, Memory>
+    ensures { IfOk result (λ s. Finds code.now bounds s.text.items s.succeeds) }
 {
-    match find_infinite(alloc, code, heaps as usize, limit)? {
-        Ok(FoundInfinite { text, shown }) => {
+    let heaps = bounds.heaps as usize;
+    let why = match find_infinite(alloc, code, heaps, bounds.order, bounds.limit)? {
+        Ok(FoundInfinite { text, shown }) if shown.last() <= heaps => {
             drop(shown);
-            Ok(Said {
+            return Ok(Said {
                 text,
                 succeeds: true,
-            })
+            });
         }
-        Err(why) => Ok(Said {
-            text: reason_line(alloc, why)?.into_bytes(),
-            succeeds: false,
-        }),
-    }
+        Ok(_) => Unfound::Refused,
+        Err(why) => why,
+    };
+    Ok(Said {
+        text: reason_line(alloc, why)?.into_bytes(),
+        succeeds: false,
+    })
 }
 
 /// Looks for the first part of the game whose code the word is, of the heaps 1 to some heap up to
-/// `heaps`, that has no finite quotient. Says the certificate with tracks that shows it, which was
-/// accepted, where at most `limit` pairs are kept; or why none was found, which claims nothing of the
-/// game.
-pub fn solve_infinite(
-    alloc: Global,
-    word: &str,
-    heaps: u32,
-    limit: u32,
-) -> Result<Said, Stop<'static>>
-    ensures says { IfOk result (λ s. IsFound word.now s.text.items s.succeeds) }
+/// `bounds.heaps`, that has no finite quotient. Says the certificate with tracks that shows it, which
+/// was accepted, with at most `bounds.order` elements and where at most `bounds.limit` pairs are kept;
+/// or why none was found, which claims nothing of the game.
+pub fn solve_infinite(alloc: Global, word: &str, bounds: PartsBounds) -> Result<Said, Stop<'static>>
+    ensures says { IfOk result (λ s. IsFound word.now bounds s.text.items s.succeeds) }
     ensures stops { IfErr result (IsSolveCause word.now) }
     ensures not_a_code { IsErrOf result Stop.NotACode ↔ IsNoCode word.now }
 {
     let Ok(code) = Code::read(word.as_bytes()) else {
         return Err(Stop::NotACode);
     };
-    let said = found(alloc, &code, heaps, limit)?;
+    let said = found(alloc, &code, bounds)?;
     Ok(said)
 }

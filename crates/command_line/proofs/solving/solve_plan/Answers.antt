@@ -1,7 +1,7 @@
 use Rattle.std.proofs.Common.{◌∙◌, ap, sym, refl, if◌then◌else◌, Bool}
 use Rattle.command_line.specs.Requests.{arguments_of, infinite_search, search}
 use Rattle.command_line.proofs.SearchLemmas.{meant}
-use Rattle.command_line.proofs.asking.solve_plan.Goals as goal
+use Rattle.command_line.proofs.solving.solve_plan.Goals as goal
 
 pub returns-then-flag : goal.returns-then-flag
 returns-then-flag c =

@@ -1,6 +1,6 @@
 use Rattle.command_line.specs.Requests.{arguments_of}
 use Rattle.command_line.proofs.CodeLemmas.{empty_given, none_given}
-use Rattle.command_line.proofs.asking.search_plan.Goals as goal
+use Rattle.command_line.proofs.solving.search_plan.Goals as goal
 
 pub returns-in-None : goal.returns-in-None
 returns-in-None c = none_given (arguments_of c.args.given.now) c.in-None.ensures

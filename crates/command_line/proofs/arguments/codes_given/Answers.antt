@@ -1,7 +1,7 @@
 use Rattle.std.proofs.Common.{◌∙◌, codes}
 use Rattle.clap.proofs.WalkLemmas.{raw_values-rows}
 use Rattle.clap.specs.Words.{found_of}
-use Rattle.command_line.proofs.asking.codes_given.Goals as goal
+use Rattle.command_line.proofs.arguments.codes_given.Goals as goal
 
 pub returns : goal.returns
 returns c = c.get_strs.ensures ∙ raw_values-rows (found_of c.args.given.now) (codes "code")
