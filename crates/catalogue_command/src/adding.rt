@@ -1,5 +1,5 @@
 //! A certificate added to a catalogue file.
-ghost use Rattle.std.specs.Prelude.{◌≡◌, IfErr, IfOk, Ok, OnErr, OnOk, false};
+ghost use Rattle.std.specs.Prelude.{◌≡◌, IfErr, IfOk, Ok, OnErr, OnOk, false, string_bytes, true};
 ghost use Rattle.folders.specs.Files.{Replaces};
 ghost use Rattle.catalogue.specs.Texts.{catalogue_text};
 ghost use Rattle.catalogue_command.specs.Answers.{Adds, AddsAnswer, Begins, Creates, IsAddition, Takes};
@@ -99,6 +99,25 @@ pub(crate) fn save<F: Folder>(
     put(folder, file, text.as_bytes())
 }
 
+/// Puts the text of a catalogue in place of the file's, and says this of it.
+pub(crate) fn saved<F: Folder>(
+    folder: &mut F,
+    file: &str,
+    catalogue: &Catalogue,
+    text: String,
+) -> Result<Said, Stop<'static>>
+    ensures told { IfOk result (λ r. (r.succeeds ≡ true)
+        × Replaces (F.files folder.old) (F.files folder.new) file.now (catalogue_text catalogue.now)
+        × (r.text.items ≡ string_bytes text)) }
+    ensures kept { OnErr result (F.files folder.new ≡ F.files folder.old) }
+    ensures stops { IfErr result (StopsCreate
+        (failed (F.failed_reads folder.old) (F.failed_writes folder.old))
+        (failed (F.failed_reads folder.new) (F.failed_writes folder.new))) }
+{
+    save(folder, file, catalogue)?;
+    Ok(Said::done(text))
+}
+
 /// Makes a file of the empty catalogue, or puts it in place of what was there. Nothing is printed.
 /// Where it stops, every file is as it was.
 pub fn create<F: Folder>(alloc: Global, folder: &mut F, file: &str) -> Result<Said, Stop<'static>>
@@ -110,11 +129,7 @@ pub fn create<F: Folder>(alloc: Global, folder: &mut F, file: &str) -> Result<Sa
         (failed (F.failed_reads folder.old) (F.failed_writes folder.old))
         (failed (F.failed_reads folder.new) (F.failed_writes folder.new))) }
 {
-    let catalogue = Catalogue::new(alloc);
-    let saved = save(folder, file, &catalogue);
-    drop(catalogue);
-    saved?;
-    Ok(Said::done(String::new(alloc)))
+    saved(folder, file, &Catalogue::new(alloc), String::new(alloc))
 }
 
 /// Adds the certificate of another file to a catalogue, and puts its text in place of the file's

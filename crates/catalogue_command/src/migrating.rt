@@ -1,38 +1,15 @@
 //! A catalogue file written anew.
-ghost use Rattle.std.specs.Prelude.{◌≡◌, IfErr, IfOk, OnErr, true};
-ghost use Rattle.folders.specs.Files.{Replaces};
-ghost use Rattle.catalogue.specs.Texts.{catalogue_text};
+ghost use Rattle.std.specs.Prelude.{◌≡◌, IfErr, IfOk, OnErr};
 ghost use Rattle.catalogue_command.specs.Answers.{Migrates};
-ghost use Rattle.catalogue_command.specs.Lines.{migrated_line};
-ghost use Rattle.catalogue_command.specs.Stops.{StopsCreate, StopsSalvage, failed};
+ghost use Rattle.catalogue_command.specs.Stops.{StopsSalvage, failed};
 
-use crate::adding::save;
+use crate::adding::saved;
 use crate::files::read;
 use crate::lines::{last_line, migrated_line};
 use catalogue::Catalogue;
 use command_results::{Said, Stop};
 use folders::Folder;
 use std::alloc::Global;
-
-/// Puts the text of the entries in place of the file's, and gives how many they are.
-fn rewritten<F: Folder>(
-    alloc: Global,
-    folder: &mut F,
-    file: &str,
-    catalogue: &Catalogue,
-) -> Result<Said, Stop<'static>>
-    ensures told { IfOk result (λ r. (r.succeeds ≡ true)
-        × Replaces (F.files folder.old) (F.files folder.new) file.now (catalogue_text catalogue.now)
-        × (r.text.items ≡ migrated_line catalogue.now)) }
-    ensures kept { OnErr result (F.files folder.new ≡ F.files folder.old) }
-    ensures stops { IfErr result (StopsCreate
-        (failed (F.failed_reads folder.old) (F.failed_writes folder.old))
-        (failed (F.failed_reads folder.new) (F.failed_writes folder.new))) }
-{
-    let text = migrated_line(alloc, catalogue)?;
-    save(folder, file, catalogue)?;
-    Ok(Said::done(text))
-}
 
 /// Puts the entries of the file, whichever version it has, in its place as a file of the newest
 /// version, and gives how many they are; or says why it isn't loaded, and leaves it. Where it
@@ -57,6 +34,9 @@ pub fn migrate<'a, F: Folder>(
             let text = last_line(alloc, fault)?;
             Ok(Said::no(text.into_bytes()))
         }
-        Ok(catalogue) => rewritten(alloc, folder, file, &catalogue),
+        Ok(catalogue) => {
+            let text = migrated_line(alloc, &catalogue)?;
+            saved(folder, file, &catalogue, text)
+        }
     }
 }
