@@ -31,7 +31,7 @@ complete -c misere -n '__fish_seen_subcommand_from solve; and not __fish_seen_su
 complete -c misere -n '__fish_seen_subcommand_from solve; and not __fish_seen_subcommand_from help' -l any -d 'Look as --deep, and if that gives up, for the most heaps 1 to M, as --furthest'
 complete -c misere -n '__fish_seen_subcommand_from solve; and not __fish_seen_subcommand_from help' -l partial -x -d 'Look for the quotient of the heaps 1 to M alone: 1 to 1024'
 complete -c misere -n '__fish_seen_subcommand_from solve; and not __fish_seen_subcommand_from help' -l furthest -x -d 'Look for the most heaps 1 to M whose quotient has at most Q elements: 2 to 4096'
-complete -c misere -n '__fish_seen_subcommand_from solve; and not __fish_seen_subcommand_from help' -l order -x -d 'Propose no quotient of more than Q elements: 2 to 256, by default 64, with --deep, --any and --partial 2 to 4096'
+complete -c misere -n '__fish_seen_subcommand_from solve; and not __fish_seen_subcommand_from help' -l order -x -d 'Propose no quotient of more than Q elements: 2 to 256, by default 64, with --deep, --any, --partial and --infinite 2 to 4096'
 complete -c misere -n '__fish_seen_subcommand_from solve; and not __fish_seen_subcommand_from help' -l why -d 'Tell why the search is given up'
 complete -c misere -n '__fish_seen_subcommand_from solve; and not __fish_seen_subcommand_from help' -l infinite -d 'Look for a part, the heaps 1 to some n, of which a certificate shows that its quotient is infinite: n to M of --heaps, 1 to 1024, by default 64'
 complete -c misere -n '__fish_seen_subcommand_from solve; and not __fish_seen_subcommand_from help' -l help -d 'Print help'
