@@ -61,6 +61,9 @@ def line(commands: Commands, chance: random.Random) -> Words:
         if argument in command.needs or chance.randrange(2):
             for _ in range(chance.choice((1, 1, 2, 3)) if argument in command.repeated else 1):
                 parts.insert(chance.randrange(len(parts) + 1), [word(values_of(name, argument, about), chance)])
+    if [b"--infinite"] in parts:
+        # its work is bounded, and may take minutes
+        parts = [it for it in parts if not it[0].startswith(b"--heaps")] + [[b"--heaps", b"5"]]
     words = [name.encode(), *(it for part in parts for it in part)]
     heads: list[Words] = [words[:1]] * 30 + [[], [b"--help"], [b"--version"], [b"help", *words[:1]]]
     words[:1] = chance.choice(heads)
