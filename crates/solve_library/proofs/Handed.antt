@@ -1,5 +1,5 @@
 -- What is handed over where a search spells a certificate, and where a check says yes.
-use Rattle.std.proofs.Common.{◌≡◌, ◌≤◌, ◌∙◌, ◌⊎◌, inl, inr, refl, sym, subst, ℕ, Bool, true, false, List, arith}
+use Rattle.std.proofs.Common.{◌≡◌, ◌≤◌, ◌∙◌, ◌⊎◌, inl, inr, refl, sym, subst, ℕ, true, List, arith}
 use Rattle.std.specs.Prelude.{Ok}
 use Rattle.misere_theory.specs.Certificates.{Certificate, kind_of}
 use Rattle.answers.specs.ByteVerdicts.{IsTrueOf}
@@ -10,7 +10,7 @@ use Rattle.requests.specs.declared.plans.Aim.{Aim}
 use Rattle.requests.specs.declared.plans.Aim.TheVariants.{Whole, Deep, Any, Part, Furthest}
 use Rattle.requests.specs.declared.plans.SolveBounds.{SolveBounds}
 use Rattle.solve_command.specs.Solved.{IsAimedAt, IsSearched, Solves}
-use Rattle.solve_library.specs.Found.{AreBounds, Certify, IsAim, IsInRange, IsOfKind, IsUnfound, IsUntold, IsUntoldOf, Tells, form_at}
+use Rattle.solve_library.specs.Found.{AreBounds, Certify, IsAim, IsCertificateFor, IsOfKind, IsUntold, IsUntoldOf, form_at}
 use Rattle.solve_library.specs.declared.causes.Untold.{Untold}
 use Rattle.solve_library.specs.declared.causes.Untold.TheVariants.{NotInRange}
 use Rattle.solve_library.specs.declared.solving.Asked.{Asked}
@@ -26,29 +26,20 @@ of_aim aim heaps kind (Part last) is at =
 of_aim aim heaps kind Furthest is at =
     ((λ e. absurd (omega arith)), (λ e. absurd (omega arith)), (λ e. at))
 
--- what a search with the reasons says is what is told of it
-pub explained : (word bytes : List ℕ) (a : Asked) (bounds : SolveBounds) (found : Bool)
-    → AreBounds a bounds → bounds.tells_why ≡ true → Solves word bounds bytes found → Tells word a bytes found
-explained word bytes a bounds true are why (code, spells, p) =
-    record {
-      certificate = p.c;
-      of_code = subst (IsCodeText word) (sym p.asked_for.of_code) spells;
-      of_kind = of_aim a.aim a.heaps (kind_of p.c) bounds.aim are.aim p.asked_for.of_kind;
-      spelled = p.spelled;
-      accepted = p.asked_for.accepted;
-      small = subst (λ (n : ℕ). p.c.order ≤ n) are.order p.small;
-      bounds = bounds;
-      are_bounds = are;
-      searched = subst (λ (d : List ℕ). IsSearched d bounds (Ok p.c)) (sym p.asked_for.of_code) p.searched;
-    }
-explained word bytes a bounds false are why p = (bounds, are, why, p)
-
--- a search that is given up tells no certificate
-pub unfound : (word : List ℕ) (a : Asked) (said : List ℕ) (found : Bool) → found ≡ false → IsInRange a
-    → Tells word a said found → IsUnfound word a 13
-unfound word a said true e range told = absurd cc
-unfound word a said false e range (bounds, are, why, p) =
-    inr (range, inr (inl (refl, (bounds, are, (said, p)))))
+-- the text of a search that found a certificate is its bytes
+pub certificate : (word bytes : List ℕ) (a : Asked) (bounds : SolveBounds) → AreBounds a bounds
+    → Solves word bounds bytes true → IsCertificateFor word a bytes
+certificate word bytes a bounds are (code, spells, p) = record {
+  certificate = p.c;
+  of_code = subst (IsCodeText word) (sym p.asked_for.of_code) spells;
+  of_kind = of_aim a.aim a.heaps (kind_of p.c) bounds.aim are.aim p.asked_for.of_kind;
+  spelled = p.spelled;
+  accepted = p.asked_for.accepted;
+  small = subst (λ (n : ℕ). p.c.order ≤ n) are.order p.small;
+  bounds = bounds;
+  are_bounds = are;
+  searched = subst (λ (d : List ℕ). IsSearched d bounds (Ok p.c)) (sym p.asked_for.of_code) p.searched;
+}
 
 -- bytes to which the answer is yes, if it is the verdict's, are certified
 certify : (bytes : List ℕ) (limit : ℕ) (c : Certificate) (says : Certificate → Type 0)

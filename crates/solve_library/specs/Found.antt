@@ -1,5 +1,5 @@
 -- What the search and the description of the library tell. This project's own.
-use Rattle.std.specs.Prelude.{◌≡◌, ◌⊎◌, ◌==◌, ℕ, ◌<◌, ◌≤◌, List, Bool, true, false, Ok, if◌then◌else◌}
+use Rattle.std.specs.Prelude.{◌≡◌, ◌⊎◌, ◌==◌, ℕ, ◌<◌, ◌≤◌, List, true, false, Ok, if◌then◌else◌}
 use Rattle.std.specs.declared.alloc.Global.{Global}
 use Rattle.misere_theory.specs.declared.TheConstants.{LARGEST_PART, LARGEST_FIRST_ORDER, LARGEST_ORDER}
 use Rattle.misere_theory.specs.Certificates.{Certificate, Accepted, kind_of}
@@ -26,7 +26,8 @@ use Rattle.requests.specs.declared.plans.SolveBounds.{SolveBounds}
 use Rattle.requests.specs.declared.ranges.TheConstants.{FEWEST_HEAPS, LARGEST_LIMIT, LEAST_ORDER, MOST_HEAPS, MOST_ROUNDS}
 use Rattle.solve_command.specs.Solved.{IsNoCode, IsSearched, Solves}
 use Rattle.solve_library.specs.declared.causes.Untold.{Untold}
-use Rattle.solve_library.specs.declared.causes.Untold.TheVariants.{NotDescribed, Beyond, NotInRange, Refused, NotOpen}
+use Rattle.solve_library.specs.declared.causes.Untold.TheVariants.{NotDescribed, Beyond, NotInRange, Refused, NotOpen, NotACode, GaveUp}
+use Rattle.solve_library.specs.declared.causes.Untold.TheVariants as cause
 use Rattle.solve_library.specs.declared.solving.Asked.{Asked}
 
 -- 0 aims at a full certificate, 1 at that of the heaps 1 to `heaps`, and 2 at that of some first heaps
@@ -66,6 +67,7 @@ pub record AreBounds (a : Asked) (bounds : SolveBounds) : Type 0 where
   pub limit : bounds.limit ≡ a.limit
   pub rounds : bounds.rounds ≡ a.rounds
   pub order : bounds.order ≡ a.order
+  pub why : bounds.tells_why ≡ a.tells_why
 
 -- the bytes are an accepted certificate of the code that the text spells, of at most so many elements
 -- and of a kind that is aimed at, to which a search within the bounds that are asked came
@@ -80,27 +82,25 @@ pub record IsCertificateFor (text : List ℕ) (a : Asked) (bytes : List ℕ) : T
   pub are_bounds : AreBounds a bounds
   pub searched : IsSearched certificate.code bounds (Ok certificate)
 
--- the search for a certificate of the code that the text spells was given up
-abbrev pub IsGivenUp : List ℕ → Asked → Type 0
-IsGivenUp text a = (bounds : SolveBounds) × AreBounds a bounds × ((said : List ℕ) × Solves text bounds said false)
-
--- the text is what a search within the bounds that are asked says of the code where it is given up,
--- with the reason
+-- the text is what a search within the bounds that are asked says of the code where it is given up
 abbrev pub IsGivenUpFor : List ℕ → Asked → List ℕ → Type 0
-IsGivenUpFor text a said =
-    (bounds : SolveBounds) × AreBounds a bounds × (bounds.tells_why ≡ true) × Solves text bounds said false
+IsGivenUpFor text a said = (bounds : SolveBounds) × AreBounds a bounds × Solves text bounds said false
 
--- what is told of a search: where it found a certificate, its bytes; else how it was given up
-abbrev pub Tells : List ℕ → Asked → List ℕ → Bool → Type 0
-Tells text a told true = IsCertificateFor text a told
-Tells text a told false = IsGivenUpFor text a told
+-- what is told of a search, with its status: with 0 the bytes of a certificate, with 13, where that is
+-- asked, how the search was given up
+abbrev pub Tells : List ℕ → Asked → ℕ → List ℕ → Type 0
+Tells text a status told = ((status ≡ 0) × IsCertificateFor text a told)
+    ⊎ ((status ≡ 13) × (a.tells_why ≡ true) × IsGivenUpFor text a told)
 
--- Why no certificate is told: something that is asked is out of its range; or all is in its range, and
--- the text is no code's, the search was given up, or memory was refused.
-abbrev pub IsUnfound : List ℕ → Asked → ℕ → Type 0
-IsUnfound text a status = ((status ≡ 15) × (IsInRange a → ⊥))
-    ⊎ (IsInRange a
-    × (((status ≡ 12) × IsNoCode text) ⊎ (((status ≡ 13) × IsGivenUp text a) ⊎ (status ≡ 9))))
+-- Why nothing is told of a search: something that is asked is out of its range; or all is in its range,
+-- and the text is no code's, the search was given up and nobody asks why, or memory was refused.
+abbrev pub IsUnfound : List ℕ → Asked → Untold → Type 0
+IsUnfound text a NotInRange = IsInRange a → ⊥
+IsUnfound text a NotACode = IsInRange a × IsNoCode text
+IsUnfound text a GaveUp =
+    IsInRange a × (a.tells_why ≡ false) × ((said : List ℕ) × IsGivenUpFor text a said)
+IsUnfound text a cause.Memory = IsInRange a
+IsUnfound text a _ = ⊥
 
 -- the form of relations of this number
 abbrev pub form_at : ℕ → Form
@@ -128,7 +128,7 @@ abbrev pub IsTextOf : List ℕ → ℕ → ℕ → ℕ → List ℕ → Type 0
 IsTextOf bytes limit output form text =
     Certify bytes limit (λ c. IsTextFor output (form_at form) c text)
 
--- the number of why no text is told: 16 where the quotient isn't described within a bound
+-- the number of why nothing is told: 16 where the quotient isn't described within a bound
 abbrev pub untold_number : Untold → ℕ
 untold_number (NotDescribed (Bound met)) = 16
 untold_number (NotDescribed NoMemory) = 9
@@ -136,6 +136,9 @@ untold_number (Beyond above) = 16
 untold_number NotInRange = 15
 untold_number (Refused refusal) = refusal_number refusal
 untold_number NotOpen = 17
+untold_number NotACode = 12
+untold_number GaveUp = 13
+untold_number cause.Memory = 9
 
 -- the search for relations met a bound, or memory was refused
 abbrev pub IsNotDescribed : Untold → Type 0

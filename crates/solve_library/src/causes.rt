@@ -1,42 +1,47 @@
-//! Why no text is told of a quotient.
-ghost use Rattle.std.specs.Prelude.{◌≡◌, ◌≢◌};
+//! Why nothing is told.
+ghost use Rattle.std.specs.Prelude.{◌≡◌};
 ghost use Rattle.solve_library.specs.Found.{untold_number};
 
-use crate::numbers::{MEMORY, NOT_IN_RANGE, NOT_OPEN};
 use answers::Refusal;
 use descriptions::{PresentBound, Undescribed};
 
-/// The quotient is not described within the bounds.
-const NOT_DESCRIBED: u32 = 16;
+/// The search was given up.
+pub(crate) const GAVE_UP: u32 = 13;
 
-/// Why no text is told of a quotient.
+/// Why nothing is told.
 #[derive(Drop)]
 pub(crate) enum Untold {
     /// The search for relations met a bound, or a growth was refused.
     NotDescribed(Undescribed),
     /// The relations are above a bound of `present`.
     Beyond(PresentBound),
-    /// There is no such output or form.
+    /// A number is out of its range, or there is no such output or form.
     NotInRange,
     /// The bytes are refused.
     Refused(Refusal),
     /// Nothing is opened.
     NotOpen,
+    /// The text is no code's.
+    NotACode,
+    /// No certificate was found.
+    GaveUp,
+    /// A growth was refused.
+    Memory,
 }
 
 impl Untold {
     /// The status. No other code makes a 16.
     pub(crate) fn number(&self) -> u32
-        ensures number { result ≡ untold_number self.now }
-        ensures no { result ≢ 0 × result ≢ 14 }
+        ensures { result ≡ untold_number self.now }
     {
         match self {
-            Untold::NotDescribed(Undescribed::Bound(_)) => NOT_DESCRIBED,
-            Untold::NotDescribed(Undescribed::Memory) => MEMORY,
-            Untold::Beyond(_) => NOT_DESCRIBED,
-            Untold::NotInRange => NOT_IN_RANGE,
+            Untold::NotDescribed(Undescribed::Memory) | Untold::Memory => 9,
+            Untold::NotDescribed(Undescribed::Bound(_)) | Untold::Beyond(_) => 16,
+            Untold::NotInRange => 15,
             Untold::Refused(refusal) => refusal.number() as u32,
-            Untold::NotOpen => NOT_OPEN,
+            Untold::NotOpen => 17,
+            Untold::NotACode => 12,
+            Untold::GaveUp => GAVE_UP,
         }
     }
 }

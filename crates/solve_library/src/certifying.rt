@@ -1,10 +1,24 @@
 //! The call that certifies tables.
-ghost use Rattle.std.specs.Prelude.{◌≡◌, ◌≢◌, ◌<◌, ◌⊎◌, ℕ, List, length, take};
-ghost use Rattle.certify_command.specs.Certifies.{AreCertified, AreNotCertified, TellsBytes};
+ghost use Rattle.std.specs.Prelude.{◌≡◌, ◌≢◌, IfOk, IfErr};
+ghost use Rattle.certify_command.specs.Certifies.{TellsBytes};
+ghost use Rattle.solve_library.specs.Handed.{HandsOver};
 
-use crate::numbers::{DONE, MEMORY, hand_over};
-use certify_command::certify_bytes;
+use crate::causes::Untold;
+use crate::handing::{Told, hand_over};
+use certify_command::{ToldTable, certify_bytes};
 use std::alloc::Global;
+
+/// What is told of the table that the bytes spell.
+fn certified(alloc: Global, table: &[u8], limit: u32) -> Result<Told, Untold>
+    ensures tells { IfOk result (λ it. TellsBytes table.now limit it.text.items it.status
+        × (it.status ≢ 9) × (it.status ≢ 14)) }
+    ensures why { IfErr result (λ why. why ≡ Untold.Memory) }
+{
+    match certify_bytes(alloc, table, limit) {
+        Ok(ToldTable { text, status }) => Ok(Told { status, text }),
+        Err(_) => Err(Untold::Memory),
+    }
+}
 
 /// Certifies the quotient of the table that the bytes spell, in whatever numbers, and tells the bytes
 /// of its certificate, and how many they are. Of another table, and of bytes that spell none, it tells
@@ -18,20 +32,8 @@ pub extern "C" fn misere_certify(
     told: &mut [u8],
     count: &mut u64,
 ) -> u32
-    ensures certified { result ≡ 0 → AreCertified table.now (take count.new told.new) }
-    ensures refused { result ≢ 0 → result ≢ 9 → result ≢ 14
-        → AreNotCertified table.now limit (take count.new told.new) result }
-    ensures stays { (result ≡ 9) ⊎ (result ≡ 14) → told.new ≡ told.old }
-    ensures room { result ≡ 14 → length told.old < count.new }
-    ensures counts { result ≡ 14
-        → (text : List ℕ) × (status : ℕ) × TellsBytes table.now limit text status × (count.new ≡ length text) }
-    ensures untold { result ≡ 9 → count.new ≡ count.old }
+    ensures { HandsOver (λ status text. TellsBytes table.now limit text status × (status ≢ 9) × (status ≢ 14))
+        (λ why. why ≡ Untold.Memory) told.old told.new count.old count.new result }
 {
-    let Ok(said) = certify_bytes(alloc, table, limit) else {
-        return MEMORY;
-    };
-    match hand_over(&said.text, told, count) {
-        DONE => said.status,
-        status => status,
-    }
+    hand_over(certified(alloc, table, limit), told, count)
 }

@@ -7,6 +7,7 @@ ghost use Rattle.solve_library.specs.Found.{IsNotDescribed, IsTextFor, IsTextOf,
 ghost use Rattle.solve_library.specs.declared.causes.Untold.TheVariants.{Beyond, NotInRange};
 
 use crate::causes::Untold;
+use crate::handing::Told;
 use answers::Certified;
 use checker::check;
 use descriptions::{
@@ -100,16 +101,20 @@ pub(crate) fn text_by(
     certified: &Certified,
     output: u32,
     form: u32,
-) -> Result<String, Untold>
+) -> Result<Told, Untold>
     ensures told { IfOk result
-        (λ t. IsTextFor output (form_at form) certified.now (string_bytes t)) }
+        (λ it. (it.status ≡ 0) × IsTextFor output (form_at form) certified.now it.text.items) }
     ensures why { IfErr result (λ u. ((u ≡ NotInRange) × (2 ≤ form))
         ⊎ IsUntoldOf output (form_at form) certified.now u) }
 {
     if form > 1 {
         return Err(Untold::NotInRange);
     }
-    text_for(alloc, certified, output, form_at(form))
+    let text = text_for(alloc, certified, output, form_at(form))?;
+    Ok(Told {
+        status: 0,
+        text: text.into_bytes(),
+    })
 }
 
 /// The text that is asked for of the quotient that the bytes certify.
@@ -119,8 +124,9 @@ pub(crate) fn described(
     limit: u32,
     output: u32,
     form: u32,
-) -> Result<String, Untold>
-    ensures told { IfOk result (λ t. IsTextOf bytes.now limit output form (string_bytes t)) }
+) -> Result<Told, Untold>
+    ensures told { IfOk result
+        (λ it. (it.status ≡ 0) × IsTextOf bytes.now limit output form it.text.items) }
     ensures why { IfErr result (IsUntold bytes.now limit output form) }
 {
     if form > 1 {

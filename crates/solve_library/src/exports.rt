@@ -1,12 +1,11 @@
 //! The calls.
-ghost use Rattle.std.specs.Prelude.{◌≡◌, ◌≢◌, ◌<◌, ℕ, Bool, List, length, take};
-ghost use Rattle.solve_library.specs.Found.{IsCertificateFor, IsGivenUpFor, IsTextOf, IsUnfound, IsUntold, Tells, untold_number};
+ghost use Rattle.std.specs.Prelude.{◌≡◌, false, true};
+ghost use Rattle.solve_library.specs.Found.{IsTextOf, IsUnfound, IsUntold, Tells};
 ghost use Rattle.solve_library.specs.Asked.{IsOpenedText, IsOpenedUntold};
-ghost use Rattle.solve_library.specs.declared.causes.Untold.{Untold};
-ghost use Rattle.solve_library.specs.declared.solving.Asked.{Asked};
+ghost use Rattle.solve_library.specs.Handed.{HandsOver, asked};
 
 use crate::describing::described;
-use crate::numbers::{DONE, GAVE_UP, hand_over};
+use crate::handing::hand_over;
 use crate::opened_texts::opened_text;
 use crate::solving::{Asked, solved};
 use opened::Opened;
@@ -30,15 +29,8 @@ pub extern "C" fn misere_solve(
     told: &mut [u8],
     count: &mut u64,
 ) -> u32
-    ensures found { let asked : Asked = record { limit = limit; rounds = rounds; aim = aim; heaps = heaps; order = order } in
-        result ≡ 0 → IsCertificateFor code.now asked (take count.new told.new) }
-    ensures no { let asked : Asked = record { limit = limit; rounds = rounds; aim = aim; heaps = heaps; order = order } in
-        result ≢ 0 → result ≢ 14 → IsUnfound code.now asked result }
-    ensures stays { result ≢ 0 → told.new ≡ told.old }
-    ensures room { result ≡ 14 → length told.old < count.new }
-    ensures counts { let asked : Asked = record { limit = limit; rounds = rounds; aim = aim; heaps = heaps; order = order } in
-        result ≡ 14 → (text : List ℕ) × IsCertificateFor code.now asked text × (count.new ≡ length text) }
-    ensures untold { result ≢ 0 → result ≢ 14 → count.new ≡ count.old }
+    ensures { let a = asked limit rounds aim heaps order false in
+        HandsOver (Tells code.now a) (IsUnfound code.now a) told.old told.new count.old count.new result }
 {
     let asked = Asked {
         limit,
@@ -46,12 +38,9 @@ pub extern "C" fn misere_solve(
         aim,
         heaps,
         order,
+        tells_why: false,
     };
-    match solved(alloc, code, asked) {
-        Ok(said) if said.succeeds => hand_over(&said.text, told, count),
-        Ok(_) => GAVE_UP,
-        Err(status) => status,
-    }
+    hand_over(solved(alloc, code, asked), told, count)
 }
 
 /// Looks for a quotient as `misere_solve` does. Where the search is given up it tells how, with the
@@ -68,17 +57,8 @@ pub extern "C" fn misere_solve_why(
     told: &mut [u8],
     count: &mut u64,
 ) -> u32
-    ensures found { let asked : Asked = record { limit = limit; rounds = rounds; aim = aim; heaps = heaps; order = order } in
-        result ≡ 0 → IsCertificateFor code.now asked (take count.new told.new) }
-    ensures gave_up { let asked : Asked = record { limit = limit; rounds = rounds; aim = aim; heaps = heaps; order = order } in
-        result ≡ 13 → IsGivenUpFor code.now asked (take count.new told.new) }
-    ensures no { let asked : Asked = record { limit = limit; rounds = rounds; aim = aim; heaps = heaps; order = order } in
-        result ≢ 0 → result ≢ 13 → result ≢ 14 → IsUnfound code.now asked result }
-    ensures stays { result ≢ 0 → result ≢ 13 → told.new ≡ told.old }
-    ensures room { result ≡ 14 → length told.old < count.new }
-    ensures counts { let asked : Asked = record { limit = limit; rounds = rounds; aim = aim; heaps = heaps; order = order } in
-        result ≡ 14 → (text : List ℕ) × (found : Bool) × Tells code.now asked text found × (count.new ≡ length text) }
-    ensures untold { result ≢ 0 → result ≢ 13 → result ≢ 14 → count.new ≡ count.old }
+    ensures { let a = asked limit rounds aim heaps order true in
+        HandsOver (Tells code.now a) (IsUnfound code.now a) told.old told.new count.old count.new result }
 {
     let asked = Asked {
         limit,
@@ -86,15 +66,9 @@ pub extern "C" fn misere_solve_why(
         aim,
         heaps,
         order,
+        tells_why: true,
     };
-    let said = match solved(alloc, code, asked) {
-        Ok(said) => said,
-        Err(status) => return status,
-    };
-    match hand_over(&said.text, told, count) {
-        DONE if !said.succeeds => GAVE_UP,
-        status => status,
-    }
+    hand_over(solved(alloc, code, asked), told, count)
 }
 
 /// Describes the quotient that the bytes certify: `output` is 0 for its description, 1 for that for
@@ -112,20 +86,10 @@ pub extern "C" fn misere_describe(
     told: &mut [u8],
     count: &mut u64,
 ) -> u32
-    ensures described { result ≡ 0
-        → IsTextOf bytes.now limit output form (take count.new told.new) }
-    ensures no { result ≢ 0 → result ≢ 14
-        → (u : Untold) × (result ≡ untold_number u) × IsUntold bytes.now limit output form u }
-    ensures stays { result ≢ 0 → told.new ≡ told.old }
-    ensures room { result ≡ 14 → length told.old < count.new }
-    ensures counts { result ≡ 14
-        → (text : List ℕ) × IsTextOf bytes.now limit output form text × (count.new ≡ length text) }
-    ensures untold { result ≢ 0 → result ≢ 14 → count.new ≡ count.old }
+    ensures { HandsOver (λ status text. (status ≡ 0) × IsTextOf bytes.now limit output form text)
+        (IsUntold bytes.now limit output form) told.old told.new count.old count.new result }
 {
-    match described(alloc, bytes, limit, output, form) {
-        Ok(text) => hand_over(text.as_bytes(), told, count),
-        Err(untold) => untold.number(),
-    }
+    hand_over(described(alloc, bytes, limit, output, form), told, count)
 }
 
 /// Describes the quotient that is opened, as `misere_describe` that of bytes.
@@ -138,19 +102,10 @@ pub extern "C" fn misere_opened_describe(
     told: &mut [u8],
     count: &mut u64,
 ) -> u32
-    ensures described { result ≡ 0 → IsOpenedText opened.old.handle.value output form
-        (take count.new told.new) }
-    ensures no { result ≢ 0 → result ≢ 14
-        → (u : Untold) × (result ≡ untold_number u) × IsOpenedUntold opened.old.handle.value output form u }
+    ensures described { let c = opened.old.handle.value in
+        HandsOver (λ status text. (status ≡ 0) × IsOpenedText c output form text)
+        (IsOpenedUntold c output form) told.old told.new count.old count.new result }
     ensures same { opened.new.handle.value ≡ opened.old.handle.value }
-    ensures stays { result ≢ 0 → told.new ≡ told.old }
-    ensures room { result ≡ 14 → length told.old < count.new }
-    ensures counts { result ≡ 14
-        → (text : List ℕ) × IsOpenedText opened.old.handle.value output form text × (count.new ≡ length text) }
-    ensures untold { result ≢ 0 → result ≢ 14 → count.new ≡ count.old }
 {
-    match opened_text(alloc, opened, output, form) {
-        Ok(text) => hand_over(text.as_bytes(), told, count),
-        Err(untold) => untold.number(),
-    }
+    hand_over(opened_text(alloc, opened, output, form), told, count)
 }

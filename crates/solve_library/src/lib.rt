@@ -8,7 +8,7 @@ mod describing;
 mod exports;
 #[cfg(test)]
 mod forms_tests;
-mod numbers;
+mod handing;
 mod opened_texts;
 #[cfg(test)]
 mod rows_tests;

@@ -1,10 +1,10 @@
 //! The description of a quotient that was opened.
 ghost use Rattle.std.specs.Prelude.{◌≡◌, IfOk, IfErr};
-ghost use Rattle.std.specs.String.{string_bytes};
 ghost use Rattle.solve_library.specs.Asked.{IsOpenedText, IsOpenedUntold};
 
 use crate::causes::Untold;
 use crate::describing::text_by;
+use crate::handing::Told;
 use opened::Opened;
 use std::alloc::Global;
 
@@ -14,9 +14,9 @@ pub(crate) fn opened_text(
     opened: &mut Opened,
     output: u32,
     form: u32,
-) -> Result<String, Untold>
-    ensures told { IfOk result (λ t. IsOpenedText opened.old.handle.value output form
-        (string_bytes t)) }
+) -> Result<Told, Untold>
+    ensures told { IfOk result (λ it. (it.status ≡ 0)
+        × IsOpenedText opened.old.handle.value output form it.text.items) }
     ensures why { IfErr result (IsOpenedUntold opened.old.handle.value output form) }
     ensures same { opened.new.handle.value ≡ opened.old.handle.value }
 {

@@ -1,8 +1,9 @@
 //! The search for a certificate.
-ghost use Rattle.std.specs.Prelude.{◌≡◌, ◌≢◌, ◌↔◌, true, IfSome, IfOk, IfErr, IsSome, IsTrue};
+ghost use Rattle.std.specs.Prelude.{◌↔◌, IfSome, IfOk, IfErr, IsSome, IsTrue};
 ghost use Rattle.solve_library.specs.Found.{AreBounds, AreNumbersInRange, IsAim, IsAimInRange, IsInRange, IsUnfound, Tells};
 
-use crate::numbers::{MEMORY, NOT_A_CODE, NOT_IN_RANGE};
+use crate::causes::{GAVE_UP, Untold};
+use crate::handing::Told;
 use command_results::{Said, Stop};
 use misere_theory::{LARGEST_FIRST_ORDER, LARGEST_ORDER, LARGEST_PART};
 use quotient_search::DEEPEST;
@@ -10,9 +11,10 @@ use requests::{Aim, FEWEST_HEAPS, LARGEST_LIMIT, LEAST_ORDER, MOST_HEAPS, MOST_R
 use solve_command::{SolveBounds, solve_bytes};
 use std::alloc::Global;
 
-/// What is asked of a search. Each number has the range that it has on a command line; of a whole
-/// game as many heaps may be looked at as the certificate of an octal code can need, and where they
-/// are more than 64, the order has the range that it has with `--deep`.
+/// What is asked of a search, and whether it tells why it is given up. Each number has the range that
+/// it has on a command line; of a whole game as many heaps may be looked at as the certificate of an
+/// octal code can need, and where they are more than 64, the order has the range that it has with
+/// `--deep`.
 #[derive(Clone, Copy)]
 pub(crate) struct Asked {
     pub limit: u32,
@@ -20,6 +22,7 @@ pub(crate) struct Asked {
     pub aim: u32,
     pub heaps: u32,
     pub order: u32,
+    pub tells_why: bool,
 }
 
 /// What the search aims at, where the numbers of it are in their ranges.
@@ -49,10 +52,9 @@ fn are_in_range(asked: Asked) -> bool
     is_limit && are_rounds && is_order
 }
 
-/// The bounds of the search, which tells why it is given up, where all that is asked is in its range.
+/// The bounds of the search, where all that is asked is in its range.
 fn bounds_of(asked: Asked) -> Option<SolveBounds>
     ensures bounds { IfSome result (AreBounds asked) }
-    ensures why { IfSome result (λ bounds. bounds.tells_why ≡ true) }
     ensures range { IsSome result ↔ IsInRange asked }
 {
     let aim = aim_of(asked)?;
@@ -64,24 +66,32 @@ fn bounds_of(asked: Asked) -> Option<SolveBounds>
         rounds: asked.rounds,
         order: asked.order,
         aim,
-        tells_why: true,
+        tells_why: asked.tells_why,
     })
 }
 
-/// The text of the certificate that is found for the code that the bytes spell, or that which says
-/// how the search was given up, with the reason; or the status.
-pub(crate) fn solved(alloc: Global, code: &[u8], asked: Asked) -> Result<Said, u32>
-    ensures says { IfOk result (λ said. Tells code.now asked said.text.items said.succeeds) }
-    ensures range { IfOk result (λ _. IsInRange asked) }
-    ensures no { IfErr result (λ s. s ≢ 0 × s ≢ 13 × s ≢ 14) }
+/// The text of the certificate that is found for the code that the bytes spell, or, where that is
+/// asked, the text that says how the search was given up.
+pub(crate) fn solved(alloc: Global, code: &[u8], asked: Asked) -> Result<Told, Untold>
+    ensures tells { IfOk result (λ it. Tells code.now asked it.status it.text.items) }
     ensures why { IfErr result (IsUnfound code.now asked) }
 {
     let Some(bounds) = bounds_of(asked) else {
-        return Err(NOT_IN_RANGE);
+        return Err(Untold::NotInRange);
     };
     match solve_bytes(alloc, code, bounds) {
-        Ok(said) => Ok(said),
-        Err(Stop::NotACode) => Err(NOT_A_CODE),
-        Err(_) => Err(MEMORY),
+        Ok(
+            Said {
+                text,
+                succeeds: true,
+            },
+        ) => Ok(Told { status: 0, text }),
+        Ok(Said { text, .. }) if asked.tells_why => Ok(Told {
+            status: GAVE_UP,
+            text,
+        }),
+        Ok(_) => Err(Untold::GaveUp),
+        Err(Stop::NotACode) => Err(Untold::NotACode),
+        Err(_) => Err(Untold::Memory),
     }
 }
