@@ -1,10 +1,11 @@
--- Rows one after another.
-use Rattle.std.proofs.Common.{◌≡◌, ℕ, ◌+◌, ◌-◌, ◌*◌, ◌/◌, ◌<◌, ◌≤◌, List, ◌++◌, add-one, refl, arith}
-use Rattle.std.specs.Prelude.{min}
+-- Where rows begin and end.
+use Rattle.std.proofs.Common.{◌≡◌, ℕ, ◌+◌, ◌-◌, ◌*◌, ◌/◌, ◌<◌, ◌≤◌, List, ◌++◌, codes, refl, subst, arith}
+use Rattle.std.specs.Prelude.{min, decimal}
 use Rattle.std.proofs.lemmas.Nat.{mul-le, div-add-mod'}
 use Rattle.misere_theory.specs.Certificates.{Certificate}
-use Rattle.descriptions.specs.Rows.{row_line, row_lines}
-use Rattle.descriptions.specs.Arrays.{before_row, entry_line, entry_lines}
+use Rattle.descriptions.specs.Rows.{cells, last_heap, row, row_count, row_width}
+use Rattle.descriptions.specs.Arrays.{before_row}
+use Rattle.descriptions.specs.declared.rows.Frame.TheVariants.{Arrays}
 
 -- the first heap of a row stands before the last heap
 pub row-starts : (k many last to : ℕ) → 0 < many → k < (last + many - 1) / many
@@ -17,22 +18,22 @@ row-starts k many last to some lt is =
     let before : k * many < last = omega (arith, least, wide, whole, some) in
     omega (arith, is, before, some)
 
-pub row-next : (c : Certificate) (n : ℕ) (words : List (List ℕ)) (width wide many last k to : ℕ)
-    (text line new : List ℕ) → text ≡ row_lines c n words width wide many last k
-    → line ≡ row_line c n words width wide (k * many) to
-    → to ≡ min (k * many + many) last
-    → new ≡ text ++ line
-    → new ≡ row_lines c n words width wide many last (k + 1)
-row-next c n words width wide many last k to text line new are is to_is e =
-    rw (e, are, is, to_is, add-one) refl
+-- and the last one is a heap
+pub row-ends : (c d : Certificate) → d ≡ c → (k many start period to : ℕ) → many ≡ row_width d.period
+    → start ≡ d.start → period ≡ d.period → 0 < many → k < row_count c
+    → to ≡ min (k * many + many) (start + period - 1)
+    → (k * many < to) × (to ≤ last_heap c)
+row-ends c d same k many start period to many_is start_is period_is some lt is =
+    let within : k < (start + period - 1 + many - 1) / many = rw (many_is, start_is, period_is, same) lt in
+    let ends : to ≤ last_heap d = omega (arith, is, start_is, period_is) in
+    (row-starts k many (start + period - 1) to some within is, subst (λ (e : Certificate). to ≤ last_heap e) same ends)
 
-pub entry-next : (c : Certificate) (n : ℕ) (words : List (List ℕ)) (wide many last k to : ℕ)
-    (text front line new : List ℕ) → text ≡ entry_lines c n words many last k
-    → wide ≡ min many last
-    → front ≡ before_row wide k
-    → line ≡ entry_line c n words (k * many) to
-    → to ≡ min (k * many + many) last
-    → new ≡ (text ++ front) ++ line
-    → new ≡ entry_lines c n words many last (k + 1)
-entry-next c n words wide many last k to text front line new are wide_is front_is is to_is e =
-    rw (e, are, front_is, wide_is, is, to_is, add-one) refl
+-- a row of an array
+pub array-row : (c d : Certificate) → d ≡ c → (n : ℕ) (words : List (List ℕ)) (k many start period to wide : ℕ)
+    (front all text : List ℕ) → many ≡ row_width d.period → start ≡ d.start → period ≡ d.period
+    → to ≡ min (k * many + many) (start + period - 1) → wide ≡ min many (start + period - 1)
+    → front ≡ before_row wide k → all ≡ cells Arrays c n words (k * many) (to - k * many)
+    → text ≡ ((front ++ decimal (k * many)) ++ codes "+") ++ all
+    → text ≡ row Arrays c n words k
+array-row c d same n words k many start period to wide front all text many_is start_is period_is is wide_is before
+    cells_are e = rw (e, before, cells_are, wide_is, is, many_is, start_is, period_is, same) refl

@@ -21,8 +21,7 @@ use Rattle.descriptions.specs.declared.finding.Findings.{Findings}
 use Rattle.descriptions.specs.Invariants.{IsOf, AreThose}
 use Rattle.descriptions.specs.Tame.{IsTame}
 use Rattle.descriptions.specs.Lines.{front_lines, list_lines, tail_line}
-use Rattle.descriptions.specs.Rows.{IsRowsText}
-use Rattle.descriptions.specs.Arrays.{arrays_text}
+use Rattle.descriptions.specs.Rows.{IsRowsText, arrays_text}
 use Rattle.descriptions.specs.Systems.{system_text}
 use Rattle.descriptions.specs.declared.systems.System.{System}
 

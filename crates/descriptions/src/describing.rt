@@ -6,12 +6,11 @@ ghost use Rattle.descriptions.specs.Described.{AreFindings, AreRows, IsDescripti
 ghost use Rattle.descriptions.specs.Lines.{front_lines, list_lines, lists_end};
 ghost use Rattle.relations.specs.declared.text.Notation.TheVariants.{Json};
 
-use crate::arrays::arrays_text;
 use crate::finding::{Findings, describe_table, find, table_of};
 use crate::lines::{
     count_text, generators_text, head_text, index_text, list_text, portion_text, tail_text,
 };
-use crate::rows::rows_text;
+use crate::rows::{arrays_text, rows_text};
 use crate::systems::{System, system_text};
 use allocation::Memory;
 use answers::Certified;

@@ -1,11 +1,12 @@
-//! The rows of the pretending function in words.
+//! The rows of the pretending function in words, in lines and in arrays of LaTeX.
 ghost use Rattle.std.specs.Prelude.{◌≡◌, ◌<◌, ◌≤◌, ◌+◌, ◌-◌, ◌*◌, IfOk, length};
 ghost use Rattle.std.specs.String.{string_bytes};
 ghost use Rattle.misere_theory.specs.declared.TheConstants.{MOST_ENTRIES};
 ghost use Rattle.misere_theory.specs.Certificates.{IsHeapOf};
 ghost use Rattle.presentations.specs.declared.TheConstants.{LETTERS};
-ghost use Rattle.descriptions.specs.Rows.{cell, cells, heap_word, label, last_heap, padded, row_line, row_lines, row_width, rows_text, spaces, IsRowsText};
+ghost use Rattle.descriptions.specs.Rows.{arrays_text, cell, cells, heap_word, label, last_heap, padded, row, row_count, row_width, rows, spaces, IsRowsText};
 
+use crate::arrays::{CLOSING, before_row};
 use answers::Certified;
 use presentations::Word;
 use relations::{Notation, word_text};
@@ -43,10 +44,20 @@ fn missing(width: usize, text: &str) -> usize
     width.saturating_sub(text.len())
 }
 
+/// How rows stand.
+#[derive(Clone, Copy)]
+pub enum Frame {
+    /// In lines, of words and of labels that are so wide.
+    Lines { width: usize, wide: usize },
+    /// In arrays of LaTeX.
+    Arrays,
+}
+
 /// The word of a heap.
-pub fn heap_text(
+fn heap_text(
     alloc: Global,
     certified: &Certified,
+    notation: Notation,
     letters: u8,
     words: &[Word],
     heap: u64,
@@ -55,41 +66,50 @@ pub fn heap_text(
     requires words { length words.now ≡ certified.now.order }
     requires counts { IsHeapOf certified.now heap }
     ensures { IfOk result
-        (λ t. string_bytes t ≡ heap_word certified.now letters words.now heap) }
+        (λ t. string_bytes t ≡ heap_word notation certified.now letters words.now heap) }
 {
     let element = certified.element(heap);
-    let text = word_text(alloc, Notation::Plain, letters, &words[element as usize])?;
+    let text = word_text(alloc, notation, letters, &words[element as usize])?;
     Ok(text)
 }
 
-/// The word of a heap with spaces behind it.
+/// The word of a heap with spaces behind it, or in its column.
 fn cell(
     alloc: Global,
+    frame: Frame,
     certified: &Certified,
     letters: u8,
     words: &[Word],
-    width: usize,
     heap: u64,
 ) -> Result<String, AllocError>
     requires letters { letters ≤ LETTERS }
     requires words { length words.now ≡ certified.now.order }
     requires counts { IsHeapOf certified.now heap }
     ensures { IfOk result
-        (λ t. string_bytes t ≡ cell certified.now letters words.now width heap) }
+        (λ t. string_bytes t ≡ cell frame certified.now letters words.now heap) }
 {
-    let word = heap_text(alloc, certified, letters, words, heap)?;
-    let more = spaces(alloc, missing(width, word.as_str()))?;
-    let text = format!(in alloc; "{word}{more} ")?;
-    Ok(text)
+    match frame {
+        Frame::Lines { width, .. } => {
+            let word = heap_text(alloc, certified, Notation::Plain, letters, words, heap)?;
+            let more = spaces(alloc, missing(width, word.as_str()))?;
+            let text = format!(in alloc; "{word}{more} ")?;
+            Ok(text)
+        }
+        Frame::Arrays => {
+            let word = heap_text(alloc, certified, Notation::Latex, letters, words, heap)?;
+            let text = format!(in alloc; "&{word}")?;
+            Ok(text)
+        }
+    }
 }
 
 /// The cells of so many heaps behind heap number `from`.
 fn cells(
     alloc: Global,
+    frame: Frame,
     certified: &Certified,
     letters: u8,
     words: &[Word],
-    width: usize,
     from: u64,
     count: u64,
 ) -> Result<String, AllocError>
@@ -97,13 +117,14 @@ fn cells(
     requires words { length words.now ≡ certified.now.order }
     requires within { from + count ≤ last_heap certified.now }
     ensures { IfOk result
-        (λ t. string_bytes t ≡ cells certified.now letters words.now width from count) }
+        (λ t. string_bytes t ≡ cells frame certified.now letters words.now from count) }
 {
     let mut text = String::new(alloc);
+    // these bound the last heap
     certified.cert().start();
     certified.cert().period();
     for k in 0..count {
-        let more = cell(alloc, certified, letters, words, width, from + k + 1)?;
+        let more = cell(alloc, frame, certified, letters, words, from + k + 1)?;
         text.push_str(more.as_str())?;
     }
     Ok(text)
@@ -118,53 +139,61 @@ fn label(alloc: Global, wide: usize, from: u64) -> Result<String, AllocError>
     Ok(text)
 }
 
-/// The row of the heaps behind heap number `from` up to number `to`.
+/// Row number k.
 fn row(
     alloc: Global,
+    frame: Frame,
     certified: &Certified,
     letters: u8,
     words: &[Word],
-    widths: (usize, usize),
-    from: u64,
-    to: u64,
+    k: u64,
 ) -> Result<String, AllocError>
     requires letters { letters ≤ LETTERS }
     requires words { length words.now ≡ certified.now.order }
-    requires some { from < to }
-    requires within { to ≤ last_heap certified.now }
-    ensures { IfOk result (λ t. string_bytes t
-        ≡ row_line certified.now letters words.now widths.0 widths.1 from to) }
+    requires within { k < row_count certified.now }
+    ensures { IfOk result (λ t. string_bytes t ≡ row frame certified.now letters words.now k) }
 {
-    let (width, wide) = widths;
-    let front = label(alloc, wide, from)?;
-    let most = cells(alloc, certified, letters, words, width, from, to - from - 1)?;
-    let last = heap_text(alloc, certified, letters, words, to)?;
-    let text = format!(in alloc;
-        "{front}{most}{last}
+    let cert = certified.cert();
+    let (many, last) = (row_width(cert.period()), cert.start() + cert.period() - 1);
+    let (from, to) = (k * many, (k * many + many).min(last));
+    match frame {
+        Frame::Lines { wide, .. } => {
+            let front = label(alloc, wide, from)?;
+            let most = cells(alloc, frame, certified, letters, words, from, to - from - 1)?;
+            let last = heap_text(alloc, certified, Notation::Plain, letters, words, to)?;
+            let text = format!(in alloc;
+                "{front}{most}{last}
 "
-    )?;
-    Ok(text)
+            )?;
+            Ok(text)
+        }
+        Frame::Arrays => {
+            let front = before_row(alloc, many.min(last), k)?;
+            let all = cells(alloc, frame, certified, letters, words, from, to - from)?;
+            let text = format!(in alloc; "{front}{from}+{all}")?;
+            Ok(text)
+        }
+    }
 }
 
-/// The rows, of words and of labels so wide.
+/// All rows.
 fn rows(
     alloc: Global,
+    frame: Frame,
     certified: &Certified,
     letters: u8,
     words: &[Word],
-    widths: (usize, usize),
 ) -> Result<String, AllocError>
     requires letters { letters ≤ LETTERS }
     requires words { length words.now ≡ certified.now.order }
     ensures { IfOk result (λ t. string_bytes t
-        ≡ rows_text certified.now letters words.now widths.0 widths.1) }
+        ≡ rows frame certified.now letters words.now (row_count certified.now)) }
 {
     let cert = certified.cert();
     let (many, last) = (row_width(cert.period()), cert.start() + cert.period() - 1);
     let mut text = String::new(alloc);
     for k in 0..(last + many - 1) / many {
-        let to = (k * many + many).min(last);
-        let line = row(alloc, certified, letters, words, widths, k * many, to)?;
+        let line = row(alloc, frame, certified, letters, words, k)?;
         text.push_str(line.as_str())?;
     }
     Ok(text)
@@ -183,13 +212,13 @@ fn longest(
     let cert = certified.cert();
     let mut most = 0;
     for heap in 1..cert.start() + cert.period() {
-        let word = heap_text(alloc, certified, letters, words, heap)?;
+        let word = heap_text(alloc, certified, Notation::Plain, letters, words, heap)?;
         most = word.len().max(most);
     }
     Ok(most)
 }
 
-/// The rows of all heaps.
+/// The rows of all heaps in lines.
 pub fn rows_text(
     alloc: Global,
     certified: &Certified,
@@ -204,6 +233,27 @@ pub fn rows_text(
     let (many, last) = (row_width(cert.period()), cert.start() + cert.period() - 1);
     let label = format!(in alloc; "{}", (last - 1) / many * many)?;
     let width = longest(alloc, certified, letters, words)?;
-    let text = rows(alloc, certified, letters, words, (width, label.len()))?;
+    let frame = Frame::Lines {
+        width,
+        wide: label.len(),
+    };
+    let text = rows(alloc, frame, certified, letters, words)?;
+    Ok(text)
+}
+
+/// The rows of all heaps in one array after another.
+pub fn arrays_text(
+    alloc: Global,
+    certified: &Certified,
+    letters: u8,
+    words: &[Word],
+) -> Result<String, AllocError>
+    requires letters { letters ≤ LETTERS }
+    requires words { length words.now ≡ certified.now.order }
+    ensures { IfOk result
+        (λ t. string_bytes t ≡ arrays_text certified.now letters words.now) }
+{
+    let mut text = rows(alloc, Frame::Arrays, certified, letters, words)?;
+    text.push_str(CLOSING)?;
     Ok(text)
 }

@@ -5,4 +5,4 @@ use Rattle.descriptions.proofs.rows.cells.Given as goal
 
 abbrev pub invariant-loop-k : goal.invariant-loop-k
 invariant-loop-k l =
-    string_bytes l.text ≡ cells l.certified l.letters l.words l.width l.from l.k
+    string_bytes l.text ≡ cells l.frame l.certified l.letters l.words l.from l.k
