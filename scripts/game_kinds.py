@@ -1,0 +1,103 @@
+"""Kinds of octal codes, whose heaps play alike, and a certificate under the name of another code of its kind."""
+
+from __future__ import annotations
+
+import collections
+from collections.abc import Iterable
+
+from certificate_lines import words_of
+
+LOOKED, COMPARED = 40, 28  # heaps whose options are made, and how many different ones make a kind
+
+
+class Games:
+    """The heaps of octal codes as games: a number for each, which those with the same options share. A heap without a
+    move has 0."""
+
+    def __init__(self) -> None:
+        self.numbers: dict[frozenset[tuple[int, ...]], int] = {frozenset(): 0}
+
+    def heaps(self, code: str, last: int = LOOKED) -> list[int]:
+        """The numbers of the heaps 0 to the last."""
+        first, digits = code.split(".")
+        takes = [(at, int(digit)) for at, digit in enumerate(first + digits) if digit != "0"]
+        found = [0]
+        for n in range(1, last + 1):
+            options: set[tuple[int, ...]] = set()
+            for taken, digit in takes:
+                rest = n - taken
+                if rest == 0 and digit & 1:
+                    options.add(())
+                if rest > 0 and taken and digit & 2:
+                    options.add((found[rest],) if found[rest] else ())
+                if rest > 1 and digit & 4:
+                    for one in range(1, rest // 2 + 1):
+                        options.add(tuple(sorted(it for it in (found[one], found[rest - one]) if it)))
+            found.append(self.numbers.setdefault(frozenset(options), len(self.numbers)))
+        return found
+
+
+def kinds_of(codes: Iterable[str]) -> list[list[str]]:
+    """The codes by kind. Two are of a kind if their first different heaps are the same games, in the same order; heaps
+    without a move don't count."""
+    games = Games()
+    groups: dict[tuple[int, ...], list[str]] = collections.defaultdict(list)
+    for code in codes:
+        groups[tuple(it for it in dict.fromkeys(games.heaps(code)) if it)[:COMPARED]].append(code)
+    return list(groups.values())
+
+
+class Renaming:
+    """The heaps of an infinite certificate, and those of another code that are the same games."""
+
+    def __init__(self, text: str, code: str) -> None:
+        self.phi = words_of(text)["phi"].split()
+        games, last = Games(), len(self.phi) + len(code)
+        self.own, self.others = (games.heaps(it, last) for it in (words_of(text)["code"], code))
+        self.said: dict[int, int] = {}  # of each game that has an element, its first heap
+        for heap, element in enumerate(self.phi, 1):
+            if element != "-" and self.own[heap]:
+                self.said.setdefault(self.own[heap], heap)
+        self.firsts = {game: self.others.index(game) for game in self.said if game in self.others}
+        self.code, self.last = code, max(self.firsts.values(), default=0)
+
+    @property
+    def has_all(self) -> bool:
+        return len(self.firsts) == len(self.said)
+
+    def heap(self, heap: str) -> int:
+        """The other code's heap; KeyError for one without a move."""
+        return self.firsts[self.own[int(heap)]]
+
+    def element(self, game: int) -> str:
+        """The word of a heap's element: a heap without a move has 0, and one of another game is left out."""
+        return self.phi[self.said[game] - 1] if game in self.said else "-" if game else "0"
+
+    def line(self, line: str) -> str:
+        """A line of the certificate under the other name."""
+        name, *words = line.split(" ")
+        if name == "code":
+            words = [self.code]
+        elif name == "heaps":
+            words = [str(self.last)]
+        elif name == "phi":
+            words = [self.element(game) for game in self.others[1 : self.last + 1]]
+        elif name == "track":
+            weights = {int(word.split(":")[0]): word.partition(":")[2] for word in words[6:]}
+            named = [(heap, self.said.get(self.others[heap])) for heap in range(1, self.last + 1)]
+            words = words[:6] + [f"{heap}:{weights[it]}" for heap, it in named if it in weights]
+        elif name == "words":
+            words = [f"{element}:{self.heap(heap)}" for element, heap in (word.split(":") for word in words)]
+        elif name in ("base", "up", "down"):
+            words = [str(it) for it in sorted(map(self.heap, words))]
+        return " ".join([name, *words])
+
+
+def renamed(text: str, code: str) -> str | None:
+    """An infinite certificate under the name of another code of its kind, or None if that hasn't all its heaps. Nothing
+    says that it is right; a check does."""
+    it = Renaming(text, code)
+    try:
+        return "".join(f"{it.line(line)}\n" for line in text.splitlines()) if it.has_all else None
+    except KeyError:
+        return None
