@@ -26,6 +26,8 @@ VALUES = {
 LINES = 6
 # The most that a search is asked for, since a longer one takes more than a run may; and the commands that search
 MOST_OF_A_SEARCH = 16
+# A number above it is out of each range that a longer search has
+LARGEST = 10_000
 SEARCHES = ("solve", "series")
 
 
@@ -43,12 +45,19 @@ def values_of(command: str, name: str, about: str) -> list[bytes]:
     return [b"%d" % it for it in sorted(numbers)]
 
 
+def changed(command: str, values: Words, chance: random.Random) -> bytes:
+    """One of the values, changed or not, but in a search to no number that asks for more than a run may take."""
+    value = word(values, chance)
+    is_long = value.isdigit() and value not in values and MOST_OF_A_SEARCH < int(value) <= LARGEST
+    return b"%d" % MOST_OF_A_SEARCH if command in SEARCHES and is_long else value
+
+
 def words_of(command: str, option: Option, chance: random.Random) -> Words:
     """An option with its value, as two words or as one."""
     name = b"--" + option.name.encode()
     if not option.value:
         return [name]
-    value = word(values_of(command, option.value, option.about), chance)
+    value = changed(command, values_of(command, option.value, option.about), chance)
     return [name + b"=" + value] if chance.randrange(8) == 0 else [name, value]
 
 
@@ -69,7 +78,7 @@ def line(commands: Commands, chance: random.Random) -> Words:
     words[:1] = chance.choice(heads)
     if words and chance.randrange(4) == 0:
         at, kind = chance.randrange(len(words)), chance.randrange(3)
-        instead: list[Words] = [[], words[at : at + 1] * 2, [word([words[at]], chance)]]
+        instead: list[Words] = [[], words[at : at + 1] * 2, [changed(name, [words[at]], chance)]]
         words[at : at + 1] = instead[kind]
     return words
 
