@@ -1,7 +1,4 @@
 pub mod Assembled
-pub mod FirstLine
-pub mod KeyTests
-pub mod Loop
 pub mod Rows
 pub mod MadeRows
 pub mod Said

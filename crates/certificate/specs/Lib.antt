@@ -1,4 +1,2 @@
-pub mod Faults
 pub mod Fields
-pub mod Given
 pub mod LineKinds

@@ -7,7 +7,7 @@ ghost use Rattle.certificate_text.specs.Spelling.{IsWritable};
 ghost use Rattle.certificate.specs.Fields.{IsWhole, certificate_of, pretending_of};
 
 use crate::fields::Fields;
-use crate::key::Key;
+use certificate_lines::Key;
 use octal_code::Code;
 use pretending::Phi;
 use std::alloc::{Allocator, Global};

@@ -6,7 +6,7 @@ ghost use Rattle.certificate.specs.Fields.{HasFirstRows, compact_of};
 
 use crate::cert::Cert;
 use crate::fields::Fields;
-use crate::firsts::firsts;
+use certificate_lines::firsts;
 use compact_certificates::products::{products_lie_behind, push_product};
 use compact_certificates::separators::{flat_tables_have_the_same_separators, least_separators};
 use compact_certificates::{certificates_in_ranges_have_tables, expandable_certificates_are_told};

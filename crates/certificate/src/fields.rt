@@ -1,5 +1,5 @@
 //! The lines of a certificate, apart.
-use crate::key::Key;
+use certificate_lines::Key;
 use octal_code::Code;
 use pretending::Phi;
 use std::alloc::{Allocator, Global};

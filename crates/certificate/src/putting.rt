@@ -6,10 +6,9 @@ ghost use Rattle.streams.specs.Stream.{Counts, Puts};
 ghost use Rattle.certificate_text.specs.Spelling.{spaced, key_word, row_line, text, said, apart_lines};
 
 use crate::cert::Cert;
-use crate::firsts::firsts;
 use crate::format::format_of;
-use crate::key::Key;
 use crate::laws::claims_agree;
+use certificate_lines::{Key, firsts};
 use itoa::Buffer;
 use octal_code::Code;
 use std::alloc::Allocator;

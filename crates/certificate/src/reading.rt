@@ -5,18 +5,16 @@ ghost use Rattle.misere_theory.specs.declared.TheConstants.{LARGEST_ORDER};
 ghost use Rattle.misere_theory.specs.Certificates.{Certificate};
 ghost use Rattle.compact_certificates.specs.Rows.{firsts_of};
 ghost use Rattle.compact_certificates.specs.Compact.{expanded, is_expandable};
-ghost use Rattle.certificate.specs.Given.{Gives};
+ghost use Rattle.certificate_lines.specs.Given.{Gives};
 ghost use Rattle.certificate.specs.Fields.{fields_of, compact_of};
 ghost use Rattle.certificate_text.specs.Reading.{certificate_at, table_at, first_rows_at, rows_of};
 ghost use Rattle.certificate_text.specs.Spelling.{Spells, IsWritable};
 
 use crate::cert::Cert;
 use crate::expanding::expanded;
-use crate::fault::TextFault;
-use crate::firsts::{firsts, is_expandable};
-use crate::lines::{line, rows};
+use crate::firsts::is_expandable;
 use crate::lists::{Lists, list_lines};
-use crate::reader::Reader;
+use certificate_lines::{Reader, TextFault, firsts, line, rows};
 use certificate_text::LONGEST_TEXT;
 use std::alloc::Allocator;
 

@@ -5,15 +5,10 @@
 mod associating;
 mod carrying;
 mod commuting;
-mod front;
 mod identities;
 mod laws;
 mod likeness;
-mod lines;
-mod numbers;
-mod portion;
 mod reaching;
-mod reader;
 mod reading;
 mod table;
 

@@ -1,19 +1,15 @@
 //! How tables are read.
 ghost use Rattle.std.specs.Prelude.{◌≡◌, ◌≤◌, IfOk, IfErr, Err};
 ghost use Rattle.misere_theory.specs.declared.TheConstants.{LARGEST_ORDER};
-ghost use Rattle.certificate.specs.Given.{Gives};
+ghost use Rattle.certificate_lines.specs.Given.{Gives};
 ghost use Rattle.own_tables.specs.Tables.{Own};
 ghost use Rattle.own_tables.specs.Texts.{SpellsTable};
 ghost use Rattle.own_tables.specs.Reading.{own_at, own_lists_at};
 ghost use Rattle.own_tables.specs.Faults.{SpellsNone};
 
-use crate::front::{Front, front_lines};
 use crate::laws::reading_tables_is_spelling;
-use crate::lines::{line, rows};
-use crate::portion::portion;
-use crate::reader::Reader;
 use crate::table::OwnTable;
-use certificate::TextFault;
+use certificate_lines::{Front, Reader, TextFault, line, number_lines, portion, rows};
 use std::alloc::Allocator;
 
 /// Why bytes are not read as a table.
@@ -47,7 +43,7 @@ fn list_lines<A: Allocator + Copy>(alloc: A, reader: &mut Reader<'_>) -> Result<
     ensures order { IfOk result (λ x. (2 ≤ x.front.order) × (x.front.order ≤ LARGEST_ORDER)) }
 {
     reader.fixed(b"table 1\n")?;
-    let front = front_lines(reader)?;
+    let front = number_lines(reader)?;
     let entries = front.start + front.period;
     let heaps = line(alloc, reader, b"heaps", entries as usize - 1, front.order)?;
     let portion = portion(alloc, reader, front.order)?;

@@ -5,9 +5,9 @@ use Rattle.std.proofs.lemmas.Bool.{le-leb}
 use Rattle.std.proofs.lemmas.Option.{some_pair_parts}
 use Rattle.std.proofs.lemmas.Bool.Decides.{nat_tests}
 use Rattle.compact_certificates.specs.Rows.{firsts_of, keys_fall}
-use Rattle.certificate.specs.declared.fault.TextFault.{TextFault}
-use Rattle.certificate.specs.declared.fault.TextFault.TheVariants.{Text, Memory}
-use Rattle.certificate.specs.Given.{Fails}
+use Rattle.certificate_lines.specs.declared.fault.TextFault.{TextFault}
+use Rattle.certificate_lines.specs.declared.fault.TextFault.TheVariants.{Text, Memory}
+use Rattle.certificate_lines.specs.Given.{Fails}
 use Rattle.certificate_text.specs.Reading.{◌>>=◌, fixed_at, line_at, key_at, rows_at, rows_of}
 use Rattle.certificate_text.proofs.Numbers.{bind_some}
 use Rattle.certificate_text.proofs.Rows.{rows_take}

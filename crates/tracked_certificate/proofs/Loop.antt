@@ -5,9 +5,9 @@ use Rattle.std.proofs.lemmas.List.{append-nil}
 use Rattle.std.proofs.lemmas.List.Concat.{flat_map-append}
 use Rattle.std.proofs.lemmas.Option.{some_pair_parts}
 use Rattle.std.proofs.lemmas.Bool.{lt-ltb, le-ltb}
-use Rattle.certificate.specs.declared.fault.TextFault.{TextFault}
-use Rattle.certificate.specs.declared.fault.TextFault.TheVariants.{Text, Memory}
-use Rattle.certificate.specs.Given.{Fails}
+use Rattle.certificate_lines.specs.declared.fault.TextFault.{TextFault}
+use Rattle.certificate_lines.specs.declared.fault.TextFault.TheVariants.{Text, Memory}
+use Rattle.certificate_lines.specs.Given.{Fails}
 use Rattle.certificate_text.specs.Reading.{with_front, fixed_at, number_at}
 use Rattle.counted_claims.specs.Folds.{Fold}
 use Rattle.counted_claims.specs.Tracked.{TrackLine}

@@ -1,7 +1,7 @@
 //! The lines before the tracks.
 ghost use Rattle.std.specs.Prelude.{◌≡◌, ◌≤◌, ◌<◌, IfOk, length};
 ghost use Rattle.misere_theory.specs.declared.TheConstants.{LARGEST_ORDER};
-ghost use Rattle.certificate.specs.Given.{Gives};
+ghost use Rattle.certificate_lines.specs.Given.{Gives};
 ghost use Rattle.certificate_text.specs.Reading.{code_line_at};
 ghost use Rattle.tracked_text.specs.declared.TheConstants.{MOST_HEAPS};
 ghost use Rattle.tracked_text.specs.Reading.{numbers_at, elements_at};

@@ -1,6 +1,6 @@
 //! Heaps that have elements, and lines of them.
 ghost use Rattle.std.specs.Prelude.{◌≡◌, ◌≤◌, length};
-ghost use Rattle.certificate.specs.Given.{Gives};
+ghost use Rattle.certificate_lines.specs.Given.{Gives};
 ghost use Rattle.tracked_text.specs.declared.TheConstants.{MOST_HEAPS};
 ghost use Rattle.tracked_text.specs.Said.{has_element};
 ghost use Rattle.tracked_text.specs.Reading.{heaps_at, position_at};

@@ -1,6 +1,6 @@
 //! Lines of numbers, of keys and of elements.
 ghost use Rattle.std.specs.Prelude.{◌≡◌, ◌≤◌, ◌<◌, ◌-◌, IfOk, codes, length};
-ghost use Rattle.certificate.specs.Given.{Gives};
+ghost use Rattle.certificate_lines.specs.Given.{Gives};
 ghost use Rattle.certificate_text.specs.Reading.{with_front, number_at, key_at, words_at, line_at, field_at, rows_at};
 ghost use Rattle.tracked_text.specs.Reading.{element_at};
 

@@ -1,6 +1,6 @@
 //! Fixed bytes and decimal numbers.
 ghost use Rattle.std.specs.Prelude.{◌≡◌, ◌<◌, IfOk, MatchOption, None, Some};
-ghost use Rattle.certificate.specs.Given.{Gives};
+ghost use Rattle.certificate_lines.specs.Given.{Gives};
 ghost use Rattle.certificate_text.specs.Reading.{fixed_at, is_digit, more_at, number_at};
 
 use certificate::TextFault;

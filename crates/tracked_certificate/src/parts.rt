@@ -2,7 +2,7 @@
 ghost use Rattle.std.specs.Prelude.{◌≡◌, ◌≤◌, IfOk, length};
 ghost use Rattle.std.specs.List.{flat_map};
 ghost use Rattle.misere_theory.specs.declared.TheConstants.{LARGEST_ORDER};
-ghost use Rattle.certificate.specs.Given.{Gives};
+ghost use Rattle.certificate_lines.specs.Given.{Gives};
 ghost use Rattle.counted_claims.specs.Tracked.{all_place_count};
 ghost use Rattle.tracked_text.specs.declared.TheConstants.{MOST_HEAPS, MOST_PLACES};
 ghost use Rattle.tracked_text.specs.Reading.{few_tracks_at, head_at, table_at, ray_at};

@@ -1,7 +1,7 @@
 //! Bytes that are read from the front.
 ghost use Rattle.std.specs.Prelude.{length, ◌≡◌, ◌≢◌, ◌==◌, ◌<◌, ◌↔◌, ◌++◌, ◌∷◌, IfOk, IsTrue, MatchBool, MatchOption, All, Some, None, [], position};
 ghost use Rattle.std.specs.Bool.{OnFalse};
-ghost use Rattle.certificate.specs.Given.{Gives};
+ghost use Rattle.certificate_lines.specs.Given.{Gives};
 ghost use Rattle.certificate_text.specs.Reading.{fixed_at, number_at, code_digit_at};
 
 use crate::numbers::{behind, number_in_front};

@@ -1,7 +1,7 @@
 //! How certificates with tracks are read.
 ghost use Rattle.std.specs.Prelude.{◌≡◌, ◌≤◌, IfOk, Err, ℕ, List, [], length};
 ghost use Rattle.certificate_text.specs.declared.TheConstants.{LONGEST_TEXT};
-ghost use Rattle.certificate.specs.Given.{Gives};
+ghost use Rattle.certificate_lines.specs.Given.{Gives};
 ghost use Rattle.tracked_text.specs.Said.{Said, InRanges};
 ghost use Rattle.tracked_text.specs.Spelling.{Spells};
 ghost use Rattle.tracked_text.specs.Reading.{said_at};

@@ -1,7 +1,7 @@
 //! The lines of the regions.
 ghost use Rattle.std.specs.Prelude.{◌≡◌, ◌≤◌, ◌<◌, ◌*◌, ◌++◌, IfOk, OnOk, false, length, replicate};
 ghost use Rattle.std.specs.List.{flat_map};
-ghost use Rattle.certificate.specs.Given.{Gives};
+ghost use Rattle.certificate_lines.specs.Given.{Gives};
 ghost use Rattle.tracked_text.specs.declared.TheConstants.{MOST_PLACES};
 ghost use Rattle.misere_theory.specs.declared.TheConstants.{LARGEST_ORDER};
 ghost use Rattle.tracked_text.specs.Said.{is_empty};

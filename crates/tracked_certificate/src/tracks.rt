@@ -1,6 +1,6 @@
 //! The lines of the tracks.
 ghost use Rattle.std.specs.Prelude.{◌≡◌, ◌≤◌, ◌++◌, IfOk, OnOk, IsTrue, All, length, replicate};
-ghost use Rattle.certificate.specs.Given.{Gives};
+ghost use Rattle.certificate_lines.specs.Given.{Gives};
 ghost use Rattle.certificate_text.specs.Reading.{with_front};
 ghost use Rattle.tracked_text.specs.declared.TheConstants.{MOST_HEAPS, MOST_TRACKS};
 ghost use Rattle.tracked_text.specs.Reading.{count_at, counts_at, is_fold, fold_at, weight_at, weights_at, track_at, tracks_at};

@@ -1,7 +1,7 @@
 //! The line of the keys, and whether all rows can be made of the first ones.
 ghost use Rattle.std.specs.Prelude.{◌≡◌, ◌≤◌, ◌<◌, ◌+◌, ◌^◌, ◌&&◌, nat_le, drop, length};
 ghost use Rattle.std.specs.List.{list_all};
-ghost use Rattle.certificate.specs.Given.{Gives};
+ghost use Rattle.certificate_lines.specs.Given.{Gives};
 ghost use Rattle.compact_certificates.specs.Rows.{firsts_of, keys_fall};
 ghost use Rattle.misere_theory.specs.declared.TheConstants.{LARGEST_ORDER};
 ghost use Rattle.tracked_text.specs.declared.TheConstants.{MOST_HEAPS};

@@ -2,7 +2,7 @@ use Rattle.std.proofs.Common.{sym, ◌∙◌}
 use Rattle.std.proofs.lemmas.List.Elements.{recursion_from_All}
 use Rattle.octal_code.specs.Text.{IsCodeText}
 use Rattle.certificate_text.specs.Reading.{code_line_at}
-use Rattle.certificate.proofs.FirstLine.{first_line, IsNoLf, none_is_read}
+use Rattle.certificate_lines.proofs.FirstLine.{first_line, IsNoLf, none_is_read}
 use Rattle.tracked_certificate.proofs.front.code_line.Goals as goal
 
 pub returns-in-Err : goal.returns-in-Err

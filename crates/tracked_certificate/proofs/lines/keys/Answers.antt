@@ -1,6 +1,6 @@
 use Rattle.std.proofs.lemmas.Result.{err_from_is_err_and}
 use Rattle.certificate_text.specs.Reading.{key_at}
-use Rattle.certificate.proofs.Loop.{goes_on, no_space, no_word, is_done}
+use Rattle.certificate_lines.proofs.Loop.{goes_on, no_space, no_word, is_done}
 use Rattle.tracked_certificate.proofs.lines.keys.Goals as goal
 
 pub returns-in_err-fixed : goal.returns-in_err-fixed

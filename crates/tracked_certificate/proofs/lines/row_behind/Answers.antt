@@ -1,7 +1,7 @@
 use Rattle.std.proofs.Common.{codes}
 use Rattle.std.proofs.lemmas.Result.{err_from_is_err_and}
 use Rattle.certificate_text.specs.Reading.{number_at}
-use Rattle.certificate.proofs.Loop.{line_has_no_name, line_has_no_words, line_has_no_end, line_is_done}
+use Rattle.certificate_lines.proofs.Loop.{line_has_no_name, line_has_no_words, line_has_no_end, line_is_done}
 use Rattle.tracked_certificate.proofs.lines.row_behind.Goals as goal
 
 pub returns-in_err-fixed : goal.returns-in_err-fixed

@@ -1,5 +1,5 @@
 use Rattle.std.proofs.lemmas.Result.{err_from_is_err_and}
-use Rattle.certificate.proofs.Loop.{rows_fail, rows_go_on, rows_are_done}
+use Rattle.certificate_lines.proofs.Loop.{rows_fail, rows_go_on, rows_are_done}
 use Rattle.tracked_certificate.proofs.lines.rows.Goals as goal
 
 pub returns-in_err-row_behind : goal.returns-in_err-row_behind

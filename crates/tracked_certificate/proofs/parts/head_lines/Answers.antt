@@ -1,6 +1,6 @@
 use Rattle.std.proofs.Common.{◌≡◌, ℕ, List, Option, Some, subst}
 use Rattle.std.proofs.lemmas.Result.{err_from_is_err_and}
-use Rattle.certificate.specs.Given.{Fails}
+use Rattle.certificate_lines.specs.Given.{Fails}
 use Rattle.tracked_text.specs.Reading.{few_tracks_at}
 use Rattle.tracked_certificate.specs.Told.{tracks_listed}
 use Rattle.tracked_certificate.proofs.Assembled.{head_has_no_numbers, head_has_no_elements, head_has_no_tracks, head_is_done}

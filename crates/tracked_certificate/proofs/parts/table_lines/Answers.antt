@@ -1,7 +1,7 @@
 use Rattle.std.proofs.Common.{◌≡◌, ℕ, Some, subst, ap, ◌∙◌}
 use Rattle.std.proofs.lemmas.Result.{err_from_is_err_and}
 use Rattle.compact_certificates.specs.Rows.{firsts_of}
-use Rattle.certificate.specs.Given.{Fails}
+use Rattle.certificate_lines.specs.Given.{Fails}
 use Rattle.certificate_text.specs.Reading.{rows_at}
 use Rattle.tracked_certificate.proofs.Assembled.{table_has_no_words, table_has_no_rows, table_has_no_regions, table_is_done}
 use Rattle.tracked_certificate.proofs.parts.table_lines.Goals as goal

@@ -1,6 +1,6 @@
 use Rattle.std.proofs.Common.{◌≡◌, ℕ, List, Option, Some, subst, arith}
 use Rattle.std.proofs.lemmas.Result.{err_from_is_err_and}
-use Rattle.certificate.specs.Given.{Fails}
+use Rattle.certificate_lines.specs.Given.{Fails}
 use Rattle.tracked_text.specs.Reading.{table_at, ray_at}
 use Rattle.tracked_certificate.specs.Told.{table_listed}
 use Rattle.tracked_certificate.proofs.Assembled.{said_has_no_head, said_has_no_table, said_has_no_ray, said_has_no_end, said_is_done}

@@ -1,5 +1,5 @@
 use Rattle.std.proofs.Common.{◌≢◌, ℕ, subst}
-use Rattle.certificate.proofs.KeyTests.{firsts_stop, all_are_first}
+use Rattle.certificate_lines.proofs.KeyTests.{firsts_stop, all_are_first}
 use Rattle.tracked_certificate.proofs.words.firsts.Goals as goal
 
 pub returns-then-key-ne0-clause-value : goal.returns-then-key-ne0-clause-value

@@ -1,5 +1,5 @@
 use Rattle.std.proofs.Common.{rules, ◌++◌, ◌∷◌, All, List, ℕ, take, sym, ap, ◌∙◌, subst}
-use Rattle.certificate.proofs.FirstLine.{cut_at, no_lf, IsNoLf, whole_drop}
+use Rattle.certificate_lines.proofs.FirstLine.{cut_at, no_lf, IsNoLf, whole_drop}
 use Rattle.tracked_certificate.proofs.reader.Reader.line.Goals as goal
 
 pub returns-in_err-end : goal.returns-in_err-end

@@ -1,5 +1,0 @@
-use Rattle.certificate.proofs.KeyTests.{AreFirst}
-use Rattle.certificate.proofs.firsts.firsts.Given as goal
-
-abbrev pub invariant-loop-i : goal.invariant-loop-i
-invariant-loop-i l = AreFirst l.words l.i

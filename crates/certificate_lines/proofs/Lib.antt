@@ -1,0 +1,3 @@
+pub mod FirstLine
+pub mod KeyTests
+pub mod Loop
