@@ -88,14 +88,14 @@ module _ (limit i : ℕ) (front : List ℕ) (least : ℕ) (bytes : List ℕ)
 
 -- ---- a line behind what was found before
 
-front_some : {X : Type 0} (front : List X) (read : Option (List X × List ℕ)) (new : List X)
+pub front_some : {X : Type 0} (front : List X) (read : Option (List X × List ℕ)) (new : List X)
     (after : List ℕ) → with_front front read ≡ Some (new, after)
     → (xs : List X) × (read ≡ Some (xs, after)) × (front ++ xs ≡ new)
 front_some front (Some y) new after e = let p = some_pair_parts (front ++ y.0) new y.1 after e in
     (y.0, ap (λ (t : List ℕ). Some (y.0, t)) p.1, p.0)
 front_some front None new after e = absurd cc
 
-front_none : {X : Type 0} (front : List X) (read : Option (List X × List ℕ))
+pub front_none : {X : Type 0} (front : List X) (read : Option (List X × List ℕ))
     → with_front front read ≡ None → read ≡ None
 front_none front (Some y) e = absurd cc
 front_none front None e = refl
@@ -138,7 +138,7 @@ module _ {X : Type 0} (word : List ℕ → Option (X × List ℕ)) (front : List
 
 -- ---- rows
 
-regroup_front : {X : Type 0} (front xs : List X) (read : Option (List X × List ℕ))
+pub regroup_front : {X : Type 0} (front xs : List X) (read : Option (List X × List ℕ))
     → with_front front (with_front xs read) ≡ with_front (front ++ xs) read
 regroup_front front xs (Some y) = ap (λ ys. Some (ys, y.1)) (sym (append_assoc front xs y.0))
 regroup_front front xs None = refl

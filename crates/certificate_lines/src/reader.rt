@@ -2,7 +2,7 @@
 ghost use Rattle.std.specs.Prelude.{length, ◌≡◌, ◌≢◌, ◌==◌, ◌<◌, ◌↔◌, ◌++◌, ◌∷◌, IfOk, IsTrue, MatchBool, MatchOption, All, Some, None, [], position};
 ghost use Rattle.std.specs.Bool.{OnFalse};
 ghost use Rattle.certificate_lines.specs.Given.{Gives};
-ghost use Rattle.certificate_text.specs.Reading.{fixed_at, number_at};
+ghost use Rattle.certificate_text.specs.Reading.{fixed_at, number_at, code_digit_at};
 
 use crate::fault::TextFault;
 use crate::numbers::{behind, number_in_front};
@@ -79,6 +79,24 @@ impl<'a> Reader<'a> {
         let (x, rest) = number_in_front(self.rest, limit)?;
         self.rest = rest;
         Ok(x)
+    }
+
+    /// Takes a hexadecimal digit, in lower case.
+    #[tactic(auto, unfolding(certificate_text::specs::Reading::code_digit_at))]
+    pub fn digit(&mut self) -> Result<u8, TextFault>
+        ensures read { Gives (λ d. (d, self.new)) result (code_digit_at self.old) }
+        ensures below { IfOk result (λ d. d < 16) }
+    {
+        let [b, rest @ ..] = self.rest else {
+            return Err(TextFault::Text);
+        };
+        let d = match *b {
+            b'0'..=b'9' => *b - b'0',
+            b'a'..=b'f' => *b - b'a' + 10,
+            _ => return Err(TextFault::Text),
+        };
+        self.rest = rest;
+        Ok(d)
     }
 
     /// Takes the bytes up to the first LF, and the LF.

@@ -8,6 +8,7 @@ use Rattle.std.proofs.lemmas.Bool.{lt-ltb, le-ltb}
 use Rattle.certificate_lines.specs.declared.fault.TextFault.{TextFault}
 use Rattle.certificate_lines.specs.declared.fault.TextFault.TheVariants.{Text, Memory}
 use Rattle.certificate_lines.specs.Given.{Fails}
+use Rattle.certificate_lines.proofs.Loop.{front_some, front_none, regroup_front}
 use Rattle.certificate_text.specs.Reading.{with_front, fixed_at, number_at}
 use Rattle.counted_claims.specs.Folds.{Fold}
 use Rattle.counted_claims.specs.Tracked.{TrackLine}
@@ -15,11 +16,6 @@ use Rattle.tracked_text.specs.Said.{has_element, folds_of}
 use Rattle.tracked_text.specs.Reading.{heaps_at, entries_at, weight_at, weights_at, region_at, regions_at, fold_at, track_at, tracks_at, places_of, hex_at}
 use Rattle.certificate_text.specs.Reading.{code_digit_at}
 use Rattle.tracked_certificate.specs.Told.{spread, track_behind, tracks_behind, weights_of}
-
-regroup : {X : Type 0} (front : List X) (x : X) (read : Option (List X × List ℕ))
-    → with_front front (with_front (x ∷ []) read) ≡ with_front (front ++ x ∷ []) read
-regroup front x (Some y) = ap (λ ys. Some (ys, y.1)) (sym (append_assoc front (x ∷ []) y.0))
-regroup front x None = refl
 
 -- ---- heaps
 
@@ -67,7 +63,7 @@ module _ (elements : List (Option ℕ)) (room i : ℕ) (front : List ℕ) (least
   unfolding heaps_at
   heaps_go_on space x after lt s h le has =
       let t : nat_lt x least ≡ false = le-ltb _ _ le in
-      sym (regroup front x (heaps_at elements (room - (i + 1)) x after))
+      sym (regroup_front front (x ∷ []) (heaps_at elements (room - (i + 1)) x after))
       ∙ (rw (s, h, t, has) at (next_heap lt))
 
   pub heaps_are_done : room ≤ i → total ≡ Some (front, bytes)
@@ -88,16 +84,11 @@ module _ (room i : ℕ) (front : List Bool) (bytes : List ℕ) (total : Option (
   digits_fail Memory lt h = tt
   digits_fail Text lt h = sym (rw h at (next_digit lt))
 
-  four : (xs : List Bool) (read : Option (List Bool × List ℕ))
-      → with_front front (with_front xs read) ≡ with_front (front ++ xs) read
-  four xs (Some y) = ap (λ ys. Some (ys, y.1)) (sym (append_assoc front xs y.0))
-  four xs None = refl
-
   pub digits_go_on : (d : ℕ) (after : List ℕ) → i < room → code_digit_at bytes ≡ Some (d, after)
       → with_front (front ++ places_of d) (hex_at (room - (i + 1)) after) ≡ total
   unfolding hex_at
   digits_go_on d after lt h =
-      sym (four (places_of d) (hex_at (room - (i + 1)) after)) ∙ (rw h at (next_digit lt))
+      sym (regroup_front front (places_of d) (hex_at (room - (i + 1)) after)) ∙ (rw h at (next_digit lt))
 
   pub digits_are_done : room ≤ i → total ≡ Some (front, bytes)
   unfolding hex_at
@@ -215,18 +206,6 @@ module _ {X Y : Type 0} (f : X → List Y) (opens : List ℕ)
       sym (rw k at so_far)
 
 -- ---- a track
-
-front_some : {X : Type 0} (front : List X) (read : Option (List X × List ℕ)) (new : List X)
-    (after : List ℕ) → with_front front read ≡ Some (new, after)
-    → (xs : List X) × (read ≡ Some (xs, after)) × (front ++ xs ≡ new)
-front_some front (Some y) new after e = let p = some_pair_parts (front ++ y.0) new y.1 after e in
-    (y.0, ap (λ (t : List ℕ). Some (y.0, t)) p.1, p.0)
-front_some front None new after e = absurd cc
-
-front_none : {X : Type 0} (front : List X) (read : Option (List X × List ℕ))
-    → with_front front read ≡ None → read ≡ None
-front_none front (Some y) e = absurd cc
-front_none front None e = refl
 
 module _ (elements : List (Option ℕ)) (found : List (ℕ × ℕ)) (bytes : List ℕ) where
   pub track_has_no_fold : (e : TextFault) → Fails e (fold_at bytes)

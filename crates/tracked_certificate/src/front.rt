@@ -2,14 +2,12 @@
 ghost use Rattle.std.specs.Prelude.{◌≡◌, ◌≤◌, ◌<◌, IfOk, length};
 ghost use Rattle.misere_theory.specs.declared.TheConstants.{LARGEST_ORDER};
 ghost use Rattle.certificate_lines.specs.Given.{Gives};
-ghost use Rattle.certificate_text.specs.Reading.{code_line_at};
 ghost use Rattle.tracked_text.specs.declared.TheConstants.{MOST_HEAPS};
 ghost use Rattle.tracked_text.specs.Reading.{numbers_at, elements_at};
 
 use crate::heaps::has_element;
-use crate::lines::{element_line, field};
-use crate::reader::Reader;
-use certificate::TextFault;
+use crate::phi::element_line;
+use certificate_lines::{Reader, TextFault, code_line, field};
 use misere_theory::LARGEST_ORDER;
 use octal_code::Code;
 use std::alloc::Allocator;
@@ -21,20 +19,6 @@ pub struct Front {
     pub code: Code,
     pub heaps: u16,
     pub order: u16,
-}
-
-/// The code up to the end of its line.
-fn code_line(reader: &mut Reader<'_>) -> Result<Code, TextFault>
-    ensures { Gives (λ x. (x, reader.new)) result (code_line_at reader.old) }
-{
-    certificate_text::code_lines_are_codes();
-    let Some(line) = reader.line() else {
-        return Err(TextFault::Text);
-    };
-    match Code::read(line) {
-        Ok(code) => Ok(code),
-        Err(_) => Err(TextFault::Text),
-    }
 }
 
 /// The lines up to the order.

@@ -5,8 +5,7 @@ ghost use Rattle.tracked_text.specs.declared.TheConstants.{MOST_HEAPS};
 ghost use Rattle.tracked_text.specs.Said.{has_element};
 ghost use Rattle.tracked_text.specs.Reading.{heaps_at, position_at};
 
-use crate::reader::Reader;
-use certificate::TextFault;
+use certificate_lines::{Reader, TextFault};
 use std::alloc::Allocator;
 
 /// Whether the heap has an element.

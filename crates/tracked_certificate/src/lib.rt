@@ -6,12 +6,10 @@
 mod complete;
 mod front;
 mod heaps;
-mod lines;
 mod listing;
-mod numbers;
 mod parts;
+mod phi;
 mod places;
-mod reader;
 mod reading;
 mod regions;
 mod rows;
@@ -20,6 +18,6 @@ mod tracks;
 mod weight;
 mod words;
 
-pub use certificate::{Key, TextFault};
+pub use certificate_lines::{Key, TextFault};
 pub use reading::read;
 pub use text::TrackedText;

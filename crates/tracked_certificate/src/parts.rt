@@ -10,13 +10,11 @@ ghost use Rattle.tracked_certificate.specs.Told.{tracks_listed, head_listed, tab
 
 use crate::front::{Front, elements, number_lines};
 use crate::heaps::position;
-use crate::lines::rows;
 use crate::places::count;
-use crate::reader::Reader;
 use crate::regions::region_lines;
 use crate::tracks::{Tracks, track_lines};
-use crate::words::{firsts, words};
-use certificate::{Key, TextFault};
+use crate::words::words;
+use certificate_lines::{Key, Reader, TextFault, firsts, rows};
 use std::alloc::{Allocator, Global};
 
 /// The lines up to the tracks, and how many places these have.

@@ -10,9 +10,8 @@ ghost use Rattle.tracked_certificate.specs.Told.{Told, listed_of, told_of, liste
 use crate::complete::completed;
 use crate::listing::Listing;
 use crate::parts::{head_lines, ray_lines, table_lines};
-use crate::reader::Reader;
 use crate::text::TrackedText;
-use certificate::TextFault;
+use certificate_lines::{Reader, TextFault};
 use certificate_text::LONGEST_TEXT;
 use std::alloc::Allocator;
 

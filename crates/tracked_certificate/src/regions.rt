@@ -8,8 +8,7 @@ ghost use Rattle.tracked_text.specs.Said.{is_empty};
 ghost use Rattle.tracked_text.specs.Reading.{hex_at, places_at, region_at, regions_at};
 ghost use Rattle.tracked_certificate.specs.Told.{spread};
 
-use crate::reader::Reader;
-use certificate::TextFault;
+use certificate_lines::{Reader, TextFault};
 use std::alloc::{AllocError, Allocator};
 
 /// Whether there is no place.

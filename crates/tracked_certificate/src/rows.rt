@@ -4,8 +4,7 @@ ghost use Rattle.std.specs.List.{concat, range_with_len};
 ghost use Rattle.tracked_text.specs.Said.{Said, all_rows};
 ghost use Rattle.tracked_certificate.specs.Told.{AreOf};
 
-use crate::words::firsts;
-use certificate::Key;
+use certificate_lines::{Key, firsts};
 use compact_certificates::products::{products_lie_behind, push_product};
 use std::alloc::{AllocError, Allocator};
 

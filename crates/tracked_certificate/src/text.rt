@@ -1,5 +1,5 @@
 //! What a text of a certificate with tracks says, in memory.
-use certificate::Key;
+use certificate_lines::Key;
 use std::alloc::{Allocator, Global};
 use std::marker::Model;
 use tracked_claims::Tracked;

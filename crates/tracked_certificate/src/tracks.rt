@@ -8,9 +8,8 @@ ghost use Rattle.counted_claims.specs.Folds.{IsFold};
 ghost use Rattle.tracked_certificate.specs.Told.{IsGoodFold, track_behind, tracks_listed};
 
 use crate::heaps::has_element;
-use crate::reader::Reader;
 use crate::weight::Weight;
-use certificate::TextFault;
+use certificate_lines::{Reader, TextFault};
 use std::alloc::{AllocError, Allocator, Global};
 use tracked_claims::Fold;
 use tracked_text::{LARGEST_COUNT, MOST_TRACKS};

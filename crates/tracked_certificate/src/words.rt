@@ -1,5 +1,5 @@
 //! The line of the keys, and whether all rows can be made of the first ones.
-ghost use Rattle.std.specs.Prelude.{◌≡◌, ◌≤◌, ◌<◌, ◌+◌, ◌^◌, ◌&&◌, nat_le, drop, length};
+ghost use Rattle.std.specs.Prelude.{◌≡◌, ◌≤◌, ◌<◌, ◌+◌, ◌&&◌, nat_le, drop, length};
 ghost use Rattle.std.specs.List.{list_all};
 ghost use Rattle.certificate_lines.specs.Given.{Gives};
 ghost use Rattle.compact_certificates.specs.Rows.{firsts_of, keys_fall};
@@ -8,24 +8,8 @@ ghost use Rattle.tracked_text.specs.declared.TheConstants.{MOST_HEAPS};
 ghost use Rattle.tracked_text.specs.Said.{phi_of};
 ghost use Rattle.tracked_text.specs.Reading.{words_at};
 
-use crate::lines::key_line;
-use crate::reader::Reader;
-use certificate::{Key, TextFault};
+use certificate_lines::{Key, Reader, TextFault, firsts, key_line, keys_fall};
 use std::alloc::Allocator;
-
-/// How many keys have the element 0 before the first that has another.
-pub fn firsts(words: &[Key]) -> usize
-    ensures value { result ≡ firsts_of words.now }
-    ensures within { result ≤ length words.now }
-{
-    for i in 0..words.len() {
-        let key = words[i];
-        if key.element != 0 {
-            return i;
-        }
-    }
-    words.len()
-}
 
 /// Whether these elements are 0 or first ones.
 fn are_first(elements: &[Option<u16>], firsts: usize) -> bool
@@ -34,20 +18,6 @@ fn are_first(elements: &[Option<u16>], firsts: usize) -> bool
     for i in 0..elements.len() {
         let x = elements[i].unwrap_or(0);
         if x as usize > firsts {
-            return false;
-        }
-    }
-    true
-}
-
-/// Whether each key has an element below its own, which for the first is `element`.
-fn keys_fall(keys: &[Key], element: usize) -> bool
-    requires { element + length keys.now < 2 ^ 64 }
-    ensures { result ≡ keys_fall element keys.now }
-{
-    for i in 0..keys.len() {
-        let key = keys[i];
-        if key.element as usize >= element + i {
             return false;
         }
     }

@@ -1,7 +1,7 @@
 use Rattle.std.proofs.Common.{◌≡◌, ◌-◌, length}
 use Rattle.certificate_text.specs.Reading.{with_front, words_at}
 use Rattle.tracked_text.specs.Reading.{element_at}
-use Rattle.tracked_certificate.proofs.lines.elements.Given as goal
+use Rattle.tracked_certificate.proofs.phi.elements.Given as goal
 
 abbrev pub invariant-loop : goal.invariant-loop
 invariant-loop g l =

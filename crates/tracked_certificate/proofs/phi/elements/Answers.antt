@@ -2,7 +2,7 @@ use Rattle.std.proofs.Common.{◌∷◌, [], length, ap, ◌∙◌, arith, lengt
 use Rattle.std.proofs.lemmas.Result.{err_from_is_err_and}
 use Rattle.tracked_text.specs.Reading.{element_at}
 use Rattle.certificate_lines.proofs.Loop.{goes_on, no_space, no_word, is_done}
-use Rattle.tracked_certificate.proofs.lines.elements.Goals as goal
+use Rattle.tracked_certificate.proofs.phi.elements.Goals as goal
 
 pub returns-in_err-fixed-clause-read : goal.returns-in_err-fixed-clause-read
 returns-in_err-fixed-clause-read g c =
