@@ -6,7 +6,6 @@
 #![tactic(auto)]
 
 mod handle;
-mod loose;
 mod opened;
 mod quotient;
 

@@ -4,11 +4,11 @@ ghost use Rattle.std.specs.declared.option.Option.{Option};
 ghost use Rattle.std.specs.declared.option.Option.TheVariants.{None, Some};
 ghost use Rattle.std.specs.Coded.{coded_option};
 ghost use Rattle.infinite_answers.specs.Kept.{Kept};
-ghost use Rattle.opened.specs.Handing.{handle_owns};
+ghost use Rattle.owners.specs.Handing.{handle_owns};
 ghost use Rattle.opened_infinite.specs.contracts.infinite.InfiniteQuotient.{the_row as quotient_row};
 
 use crate::infinite::InfiniteQuotient;
-use crate::loose::Loose;
+use owners::Loose;
 use std::alloc::Global;
 use std::marker::Model;
 use std::ptr::null_mut;

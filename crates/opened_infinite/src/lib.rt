@@ -4,7 +4,6 @@
 
 mod handle;
 mod infinite;
-mod loose;
 mod owner;
 
 pub use handle::InfiniteHandle;

@@ -31,13 +31,13 @@ use Rattle.core.proofs.cell.Inside.{Good}
 use Rattle.std_alloc.proofs.BoxSteps.Form as box
 use Rattle.std_alloc.proofs.BoxSteps.Steps.{box_out, box_in}
 use Rattle.std.proofs.raw_atomic.Walks.{proved_at, leaves}
-use Rattle.opened.proofs.Values.{both, Loose, loose_good, loose_out}
+use Rattle.owners.proofs.Values.{both, Loose, loose_good, loose_out}
 use Rattle.std_alloc.specs.contracts.boxed.Box.from_raw as callee
 use Rattle.std_alloc.proofs.boxed.Box.from_raw.Met.{met}
-use Rattle.opened.specs.contracts.loose.Loose.into_box.{ended, clauses}
-use Rattle.opened.specs.contracts.loose.Loose.into_box.Key.{name as #self}
-use Rattle.opened.proofs.loose.Loose.into_box.Statement.{statement}
-use Rattle.opened.proofs.loose.Loose.into_box.Code as code
+use Rattle.owners.specs.contracts.loose.Loose.into_box.{ended, clauses}
+use Rattle.owners.specs.contracts.loose.Loose.into_box.Key.{name as #self}
+use Rattle.owners.proofs.loose.Loose.into_box.Statement.{statement}
+use Rattle.owners.proofs.loose.Loose.into_box.Code as code
 
 pub into_box_spec : {M : Type 1} → statement M
 into_box_spec 𝓤 𝓛 𝓜 𝓡 wired T A L LA g d dx dd allocator glue glued =
