@@ -16,7 +16,7 @@ use Rattle.pretending.specs.Pretending.{Pretending, IsPretending}
 use Rattle.pretending.specs.Tables.{IsInto}
 use Rattle.transition_algebra.specs.Heaps.{bound_of, largest_part}
 use Rattle.transition_algebra.specs.Work.{opening, heap_cost, most_turns, HeapWork, IsDone, worked}
-use Rattle.transition_algebra.specs.Trials.{IsTrial}
+use Rattle.transition_algebra.specs.Trials.{with_left, IsTrial}
 use Rattle.transition_algebra.specs.OverSets.{Pair, Trial}
 use Rattle.transition_algebra.proofs.Cost.{two_digits, cost_short, cost_small}
 use Rattle.transition_algebra.proofs.Steps.{AreFirstHeapPairs}
@@ -62,6 +62,7 @@ pub new_trial : (code : List ℕ) (table : Grid) (phi : Pretending) (b m : ℕ) 
     (seen : set.FinSet nat_cmp) → b ≡ bound_of code phi → m ≡ largest_part phi → w ≡ begun 1 m
     → seen ≡ set.empty
     → IsTrial code table phi (record { bound = b; walk = w; seen = seen; spent = 0 }) []
+unfolding with_left
 new_trial code table phi b m w seen bound most at_first none =
     subst (λ v. IsTrial code table phi (record { bound = b; walk = v; seen = seen; spent = 0 }) [])
     (sym at_first) (record {

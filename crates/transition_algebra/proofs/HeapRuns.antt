@@ -8,17 +8,18 @@ use native.Mathlib.Decide.{dec_le}
 use Rattle.monoid_table.specs.Grids.{Grid}
 use Rattle.octal_code.specs.Bits.{allows}
 use Rattle.octal_code.specs.declared.leaving.Leaving.TheVariants.{TwoHeaps}
-use Rattle.heap_options.specs.Options.{options_at, splits}
+use Rattle.heap_options.specs.Options.{options_at}
 use Rattle.heap_options.specs.Walks.{options_from}
 use Rattle.heap_options.proofs.WalkLaws.{no_bit, no_bit_three, none_untried}
+use Rattle.heap_options.specs.declared.left.Left.TheVariants.{Two}
 use Rattle.heap_options.specs.declared.walk.Untried.{Untried}
 use Rattle.heap_options.specs.declared.walk.Untried.TheVariants.{Everything, Splits, Triples}
 use Rattle.pretending.specs.Pretending.{Pretending, phi_at}
 use Rattle.transition_algebra.specs.Heaps.{bound_of, largest_part}
 use Rattle.transition_algebra.specs.Work.{tries, turns}
-use Rattle.transition_algebra.specs.Trials.{split_value, seen_at, after_heap, IsUntried, trying_of, IsTrial, IsRun}
+use Rattle.transition_algebra.specs.Trials.{seen_at, with_left, after_heap, IsUntried, trying_of, IsTrial, IsRun}
 use Rattle.transition_algebra.specs.OverSets.{Pair, Trial}
-use Rattle.transition_algebra.proofs.Coming.{values_none}
+use Rattle.transition_algebra.proofs.Coming.{part_none}
 use Rattle.transition_algebra.proofs.Turning.{closing_turn}
 use Rattle.transition_algebra.proofs.Running.{moved_on}
 
@@ -26,10 +27,11 @@ module _ (code : List ℕ) (table : Grid) (phi : Pretending) where
   -- past the last digit no splits are in hand
   none_beside : (n most j : ℕ) (seen : set.FinSet nat_cmp) (stage : Untried) → length code ≤ j
       → IsUntried code n most j stage → seen_at table phi (n - j) seen stage ≡ seen
+  unfolding with_left
   none_beside n most j seen Everything l is = refl
   none_beside n most j seen (Splits a) l is =
       let bit : allows code j TwoHeaps ≡ false = no_bit code j l in
-      values_none (split_value table phi (n - j)) seen 1 (a - 1) (elim (dec_le 2 a) [
+      part_none table phi (λ b. Two b (n - j - b)) 1 (a - 1) seen (elim (dec_le 2 a) [
         | yes two ↦ absurd (let f = sym bit ∙ (is.1 two).0 in cc)
         | no few ↦ omega arith
       ])
@@ -47,6 +49,7 @@ module _ (code : List ℕ) (table : Grid) (phi : Pretending) where
       → v ≡ phi_at phi s.walk.heap
       → qs ≡ ps ++ (record { value = v; options = s.seen } ∷ [])
       → IsRun code table phi s t qs units r
+  unfolding with_left
   run_close s t ps qs units r v is going past some count after value more =
       let most = largest_part phi in
       let u = after_heap s in

@@ -10,8 +10,7 @@ mod Turning
 mod Cost
 mod Ready
 mod Running
-mod SplitRuns
-mod TripleRuns
+mod Runs
 mod HeapRuns
 mod Finished
 mod Every

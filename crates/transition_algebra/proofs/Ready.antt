@@ -41,18 +41,20 @@ module _ (code : List ℕ) (table : Grid) (monoid : Monoid table.order (times_in
             let few = cost_small code phi octal pretending in
             let B = bound_small phi pretending code (two_digits code octal).1 in
             omega arith;
-        elements = λ b f l.
-            let i : b - 1 < length pairs = omega arith in
-            let e : b - 1 + 1 ≡ b = omega arith in
-            (made.each (b - 1) one i).value_is
-            ∙ agrees.phi_is (b - 1 + 1) (counted code phi (b - 1 + 1) (omega arith) (omega arith))
-            ∙ ap (phi_at phi) e;
-        inside =
-            All-from_get_or (λ p. p.value < table.order) pairs one
-            (λ i l.
-            (All-get_or (IsPair table.order) pairs i one l
-            (all_in table monoid phi into code (t.walk.heap - 1) pairs (omega arith) s.made)).value);
-        within = omega arith;
+        shown = record {
+          elements = λ b f l.
+              let i : b - 1 < length pairs = omega arith in
+              let e : b - 1 + 1 ≡ b = omega arith in
+              (made.each (b - 1) one i).value_is
+              ∙ agrees.phi_is (b - 1 + 1) (counted code phi (b - 1 + 1) (omega arith) (omega arith))
+              ∙ ap (phi_at phi) e;
+          inside =
+              All-from_get_or (λ p. p.value < table.order) pairs one
+              (λ i l.
+              (All-get_or (IsPair table.order) pairs i one l
+              (all_in table monoid phi into code (t.walk.heap - 1) pairs (omega arith) s.made)).value);
+          within = omega arith;
+        };
       }
 
 -- a walk that isn't over takes away what some digit stands for

@@ -1,6 +1,6 @@
 -- A run of turns leaves a trial that the turns reached.
 -- So many turns at once, or none and a stage less of the heap in hand.
-use Rattle.std.proofs.Common.{◌≡◌, ℕ, ◌+◌, ◌-◌, ◌<◌, ◌≤◌, inr, ◌⊎◌, List, [], ◌∷◌, ◌++◌, length, refl, sym, ◌∙◌, ap, ap₂, arith}
+use Rattle.std.proofs.Common.{◌≡◌, ℕ, ◌+◌, ◌<◌, ◌≤◌, ◌⊎◌, List, [], ◌∷◌, ◌++◌, length, refl, sym, ◌∙◌, ap, arith}
 use Rattle.std.specs.FinSet as set
 use Rattle.std.specs.Ordering.{nat_cmp}
 use Rattle.monoid_table.specs.Grids.{Grid}
@@ -9,10 +9,10 @@ use Rattle.heap_options.specs.declared.left.Left.{Left}
 use Rattle.pretending.specs.Pretending.{Pretending}
 use Rattle.transition_algebra.specs.Heaps.{bound_of, largest_part, left_value}
 use Rattle.transition_algebra.specs.Work.{opening, turns, heap_cost}
-use Rattle.transition_algebra.specs.Trials.{seen_at, with_left, IsUntried, trying_of, IsTrial, IsRun}
+use Rattle.transition_algebra.specs.Trials.{with_left, IsUntried, trying_of, IsTrial, IsRun}
 use Rattle.transition_algebra.specs.OverSets.{Pair, Trial}
 use Rattle.transition_algebra.proofs.Cost.{left_after}
-use Rattle.transition_algebra.proofs.Turning.{left, left_some, left_over, turns-add, no_turn, one_turn}
+use Rattle.transition_algebra.proofs.Turning.{left, left_some, left_over, turns-add, one_turn}
 
 module _ (code : List ℕ) (table : Grid) (phi : Pretending) where
   -- the turns that a trial may still make
@@ -79,30 +79,3 @@ module _ (code : List ℕ) (table : Grid) (phi : Pretending) where
       ∙ ap (turns code table phi (length xs))
       (one_turn code table phi (record { heap = n; coming = coming; seen = seen; pairs = pairs }) x
       (xs ++ rest) (left_value table phi x) l e refl)
-
-  -- no turn: what is to come and the values so far stay the same
-  pub stood : (s u : Trial) (ps : List Pair) (units : ℕ) → IsTrial code table phi s ps
-      → s.walk.heap ≤ bound_of code phi
-      → u.bound ≡ s.bound → u.walk.most ≡ s.walk.most → u.walk.heap ≡ s.walk.heap
-      → u.spent ≡ s.spent
-      → left_at code u.walk.heap (largest_part phi) u.walk.away u.walk.untried
-      ≡ left_at code s.walk.heap (largest_part phi) s.walk.away s.walk.untried
-      → seen_at table phi (u.walk.heap - u.walk.away) u.seen u.walk.untried
-      ≡ seen_at table phi (s.walk.heap - s.walk.away) s.seen s.walk.untried
-      → u.walk.away ≤ length code
-      → IsUntried code u.walk.heap (largest_part phi) u.walk.away u.walk.untried
-      → stages_left code u.walk < stages_left code s.walk
-      → IsRun code table phi s u ps units 0
-  stood s u ps units is going bound most heap spent coming seen away stage falls =
-      let here : u.spent ≡ s.spent + 0 = omega arith in
-      let same : trying_of code table phi u ps ≡ trying_of code table phi s ps =
-      ap (λ n. record {
-        heap = n;
-        coming = left_at code u.walk.heap (largest_part phi) u.walk.away u.walk.untried;
-        seen = seen_at table phi (u.walk.heap - u.walk.away) u.seen u.walk.untried;
-        pairs = ps;
-      }) heap
-      ∙ ap₂ (λ xs v. record { heap = s.walk.heap; coming = xs; seen = v; pairs = ps }) coming seen in
-      moved_on s u ps ps units 0 is going
-      (same ∙ no_turn code table phi (trying_of code table phi s ps)) here (omega arith) bound most away
-      stage (omega arith) (inr falls) (omega arith)

@@ -9,14 +9,11 @@ use Rattle.std.specs.FinSet as set
 use Rattle.std.specs.Ordering.{nat_cmp}
 use Rattle.misere_theory.specs.Quotients.{Monoid}
 use Rattle.monoid_table.specs.Grids.{Grid, times_in}
-use Rattle.heap_options.specs.Options.{splits}
 use Rattle.heap_options.specs.declared.left.Left.{Left}
-use Rattle.heap_options.specs.declared.left.Left.TheVariants.{Two}
 use Rattle.pretending.specs.Pretending.{Pretending, IsPretending, phi_at}
 use Rattle.pretending.specs.Tables.{IsInto}
 use Rattle.transition_algebra.specs.Heaps.{IsHeapPair, bound_of, left_value}
 use Rattle.transition_algebra.specs.Work.{Trying, tries, opening, tried, turn, turns}
-use Rattle.transition_algebra.specs.Trials.{with_values}
 use Rattle.transition_algebra.specs.OverSets.{Pair}
 use Rattle.transition_algebra.proofs.Counted.{counted}
 use Rattle.transition_algebra.proofs.Steps.{SeenSo, none_seen, one_more, the_pair, AreFirstHeapPairs, pairs_more, no_pairs}
@@ -84,26 +81,6 @@ module _ (code : List ℕ) (table : Grid) (phi : Pretending) where
         pairs = ps;
       }) (ap (λ w. s.pairs ++ (record { value = w; options = s.seen } ∷ [])) (sym f)
       ∙ sym g))
-
-  -- so many splits
-  pub split_turns : (f : ℕ → ℕ) (m count a n : ℕ) (seen : set.FinSet nat_cmp) (pairs : List Pair)
-      (coming rest : List Left)
-      → n ≤ bound_of code phi
-      → coming ≡ splits m a count ++ rest
-      → ((b : ℕ) → a ≤ b → b < a + count → f b ≡ left_value table phi (Two b (m - b)))
-      → record { heap = n; coming = rest; seen = with_values f seen a count; pairs = pairs }
-      ≡ turns code table phi count
-      (record { heap = n; coming = coming; seen = seen; pairs = pairs })
-  unfolding turns with_values
-  split_turns f m zero a n seen pairs coming rest l e g =
-      ap (λ xs. record { heap = n; coming = xs; seen = seen; pairs = pairs }) (sym e)
-  split_turns f m (suc c) a n seen pairs coming rest l e g =
-      let s : Trying = record { heap = n; coming = coming; seen = seen; pairs = pairs } in
-      split_turns f m c (a + 1) n (set.insert seen (f a)) pairs (splits m (a + 1) c ++ rest) rest l
-      refl (λ b p q. g b (omega arith) (omega arith))
-      ∙ ap (turns code table phi c)
-      (one_turn s (Two a (m - a)) (splits m (a + 1) c ++ rest) (f a) l e
-      (g a (omega arith) (omega arith)))
 
 -- what stands after turns from the start
 pub record Standing (code : List ℕ) (table : Grid) (phi : Pretending) (s : Trying) : Type 0 where

@@ -1,23 +1,26 @@
 -- How far the options of the heaps are tried.
-use Rattle.std.specs.Prelude.{◌≡◌, true, if◌then◌else◌, ℕ, zero, suc, ◌+◌, ◌-◌, ◌/◌, ◌^◌, ◌<◌, ◌≤◌, ◌⊎◌, List, [], ◌∷◌, ◌++◌, length, min, slice_index_or, All}
+use Rattle.std.specs.Prelude.{◌≡◌, true, if◌then◌else◌, ℕ, ◌+◌, ◌-◌, ◌/◌, ◌^◌, ◌<◌, ◌≤◌, ◌⊎◌, List, [], ◌∷◌, ◌++◌, length, min, slice_index_or, All}
 use Rattle.std.specs.List.{flat_map, range_with_len}
 use Rattle.std.specs.FinSet as set
 use Rattle.std.specs.Ordering.{nat_cmp}
 use Rattle.monoid_table.specs.Grids.{Grid}
 use Rattle.octal_code.specs.Bits.{allows}
+use Rattle.octal_code.specs.declared.leaving.Leaving.{Leaving}
 use Rattle.octal_code.specs.declared.leaving.Leaving.TheVariants.{TwoHeaps, ThreeHeaps}
-use Rattle.heap_options.specs.Options.{row, last_first, last_second, triples_at, triples}
+use Rattle.heap_options.specs.Options.{splits, row, last_first, last_second, triples_at, triples}
 use Rattle.heap_options.specs.Walks as walks
 use Rattle.heap_options.specs.Walks.{single_left, last_part, left_at, begun, stages_left}
 use Rattle.heap_options.specs.declared.left.Left.{Left}
-use Rattle.heap_options.specs.declared.left.Left.TheVariants.{Two}
 use Rattle.heap_options.specs.declared.walk.Untried.{Untried}
 use Rattle.heap_options.specs.declared.walk.Untried.TheVariants.{Everything, Splits, Triples}
+use Rattle.heap_options.specs.declared.walk.Walk.{Walk}
 use Rattle.pretending.specs.Pretending.{Pretending, HasElement, phi_at}
 use Rattle.transition_algebra.specs.Pairs.{one}
 use Rattle.transition_algebra.specs.Heaps.{bound_of, largest_part, left_value}
 use Rattle.transition_algebra.specs.Work.{Trying, opening, turns, heap_cost}
-use Rattle.transition_algebra.specs.OverSets.{Pair, Trial}
+use Rattle.transition_algebra.specs.OverSets.{Pair, Trial, CutValues}
+use Rattle.transition_algebra.specs.declared.cut_values.Cut.{Cut}
+use Rattle.transition_algebra.specs.declared.cut_values.Cut.TheVariants.{InTwo, InThree}
 
 -- the element of the heap n, by its pair
 abbrev pub value_at : List Pair → ℕ → ℕ
@@ -27,39 +30,36 @@ value_at pairs n = (slice_index_or pairs (n - 1) one).value
 abbrev pub HaveElements : Pretending → List Pair → Type 0
 HaveElements phi pairs = (n : ℕ) → 1 ≤ n → n ≤ length pairs → value_at pairs n ≡ phi_at phi n
 
--- the value of the split of the whole heap with this smaller part
-abbrev pub split_value : Grid → Pretending → ℕ → ℕ → ℕ
-split_value table phi whole a = left_value table phi (Two a (whole - a))
-
--- the set, with what f makes of the n numbers from a on
-unfoldable pub with_values : (ℕ → ℕ) → set.FinSet nat_cmp → ℕ → ℕ → set.FinSet nat_cmp
-with_values f s a zero = s
-with_values f s a (suc n) = with_values f (set.insert s (f a)) (a + 1) n
-
--- the values of the splits of the whole heap that are tried
-abbrev pub values_of_splits : Grid → Pretending → ℕ → set.FinSet nat_cmp
-values_of_splits table phi whole =
-    with_values (split_value table phi whole) set.empty 1 (min (whole / 2) (largest_part phi))
+-- the pairs show the elements of the heaps below n
+pub record AreShown (table : Grid) (phi : Pretending) (pairs : List Pair) (n : ℕ) : Type 0 where
+  pub elements : HaveElements phi pairs
+  pub inside : All (λ p. p.value < table.order) pairs
+  pub within : n ≤ length pairs + 1
 
 -- the set, with the values of what is left
 unfoldable pub with_left : Grid → Pretending → set.FinSet nat_cmp → List Left → set.FinSet nat_cmp
 with_left table phi s [] = s
 with_left table phi s (x ∷ xs) = with_left table phi (set.insert s (left_value table phi x)) xs
 
--- the values of the triples of the whole heap that are tried
-abbrev pub values_of_triples : Grid → Pretending → ℕ → set.FinSet nat_cmp
-values_of_triples table phi whole =
-    with_left table phi set.empty (triples whole (largest_part phi) 1)
+-- the splits or the triples of the whole heap whose parts but the largest are at most `most`
+abbrev pub cuts : Cut → ℕ → ℕ → List Left
+cuts InTwo whole most = splits whole 1 (min (whole / 2) most)
+cuts InThree whole most = triples whole most 1
 
--- set number m has the values of the triples of the heap m
-abbrev pub AreTripleValues : Grid → Pretending → List (set.FinSet nat_cmp) → Type 0
-AreTripleValues table phi sets = (m : ℕ) → m < length sets
-    → slice_index_or sets m set.empty ≡ values_of_triples table phi m
+-- the values of those that are tried
+abbrev pub cut_values : Cut → Grid → Pretending → ℕ → set.FinSet nat_cmp
+cut_values cut table phi whole =
+    with_left table phi set.empty (cuts cut whole (largest_part phi))
 
--- set number m has the values of the splits of the heap m
-abbrev pub AreSplitValues : Grid → Pretending → List (set.FinSet nat_cmp) → Type 0
-AreSplitValues table phi sets = (m : ℕ) → m < length sets
-    → slice_index_or sets m set.empty ≡ values_of_splits table phi m
+-- set number m has the values of the heap m, cut so
+abbrev pub AreCutValues : Cut → Grid → Pretending → List (set.FinSet nat_cmp) → Type 0
+AreCutValues cut table phi sets = (m : ℕ) → m < length sets
+    → slice_index_or sets m set.empty ≡ cut_values cut table phi m
+
+-- the values that are kept are those of splits and of triples
+pub record AreKept {A : Type 0} (table : Grid) (phi : Pretending) (kept : CutValues A) : Type 0 where
+  pub splits : AreCutValues InTwo table phi kept.splits.items
+  pub triples : AreCutValues InThree table phi kept.triples.items
 
 -- the option that leaves one heap at most was tried
 abbrev pub after_single : List ℕ → Grid → Pretending → Trial → Trial
@@ -88,23 +88,24 @@ after_triples t a b count = record t {
 abbrev pub after_row : Trial → ℕ → Trial
 after_row t a = record t { walk = walks.after_row t.walk a }
 
--- the triples' values are taken over, and more is taken away
-abbrev pub after_all_triples : Grid → Pretending → Trial → Trial
-after_all_triples table phi t = record t {
-  walk = walks.after_all t.walk;
-  seen = set.union t.seen (values_of_triples table phi (t.walk.heap - t.walk.away));
-}
+-- the bit that allows it
+abbrev pub leaving : Cut → Leaving
+leaving InTwo = TwoHeaps
+leaving InThree = ThreeHeaps
 
--- the splits' values, if there are any, are taken over, and the triples begin, or more is taken away
--- where no triple may be left
-abbrev pub after_all : List ℕ → Grid → Pretending → Trial → Trial
-after_all code table phi t = record t {
-  walk =
-      if allows code t.walk.away ThreeHeaps then walks.at_triples t.walk
-      else walks.after_all t.walk;
+-- behind the splits the triples are untried, or more is taken away where no triple may be left, as it
+-- is behind the triples
+abbrev pub behind : Cut → List ℕ → Walk → Walk
+behind InTwo code w = if allows code w.away ThreeHeaps then walks.at_triples w else walks.after_all w
+behind InThree code w = walks.after_all w
+
+-- the values of the splits or of the triples, if there are any, are taken over
+abbrev pub after_cut : Cut → List ℕ → Grid → Pretending → Trial → Trial
+after_cut cut code table phi t = record t {
+  walk = behind cut code t.walk;
   seen =
-      if allows code t.walk.away TwoHeaps
-      then set.union t.seen (values_of_splits table phi (t.walk.heap - t.walk.away))
+      if allows code t.walk.away (leaving cut)
+      then set.union t.seen (cut_values cut table phi (t.walk.heap - t.walk.away))
       else t.seen;
 }
 
@@ -131,13 +132,17 @@ abbrev pub triples_before : ℕ → ℕ → ℕ → ℕ → List Left
 triples_before m most a b =
     flat_map (triples_at m most) (range_with_len 1 (a - 1)) ++ row m a a (b - a)
 
+-- the splits or the triples of m that were tried
+abbrev pub tried_before : ℕ → ℕ → Untried → List Left
+tried_before m most Everything = []
+tried_before m most (Splits a) = splits m 1 (a - 1)
+tried_before m most (Triples a b) = triples_before m most a b
+
 -- The values of the options tried: those of splits are taken over once all splits of a whole are
 -- tried, and those of triples once all of them are.
 abbrev pub seen_at : Grid → Pretending → ℕ → set.FinSet nat_cmp → Untried → set.FinSet nat_cmp
-seen_at table phi whole seen Everything = seen
-seen_at table phi whole seen (Splits a) = with_values (split_value table phi whole) seen 1 (a - 1)
-seen_at table phi whole seen (Triples a b) =
-    with_left table phi seen (triples_before whole (largest_part phi) a b)
+seen_at table phi whole seen untried =
+    with_left table phi seen (tried_before whole (largest_part phi) untried)
 
 abbrev pub trying_of : List ℕ → Grid → Pretending → Trial → List Pair → Trying
 trying_of code table phi t pairs = record {
@@ -164,9 +169,7 @@ pub record IsReady (code : List ℕ) (table : Grid) (phi : Pretending) (t : Tria
   pub going : t.walk.heap ≤ bound_of code phi
   pub counts : HasElement phi t.walk.heap
   pub small : t.spent + t.walk.heap < 2 ^ 48
-  pub elements : HaveElements phi pairs
-  pub inside : All (λ p. p.value < table.order) pairs
-  pub within : t.walk.heap ≤ length pairs + 1
+  pub shown : AreShown table phi pairs t.walk.heap
 
 -- at most so many turns more, none of which begins a second heap, and where none, a stage less
 pub record IsRun (code : List ℕ) (table : Grid) (phi : Pretending) (s t : Trial) (pairs : List Pair)

@@ -5,8 +5,8 @@ ghost use Rattle.pretending.specs.Tables.{IsInto};
 ghost use Rattle.transition_algebra.specs.Heaps.{AreAllHeapPairs, all_heap_pairs, bound_of};
 ghost use Rattle.transition_algebra.specs.Work.{IsDone, worked, heap_cost, turns, opening};
 
+use crate::cut_values::CutValues;
 use crate::pair::Pair;
-use crate::split_values::SplitValues;
 use crate::trial::Trial;
 use allocation::Memory;
 use element_sets::LaneSet;
@@ -25,7 +25,7 @@ pub struct HeapJob<const LANES: usize, A: Allocator = Global> {
     phi: Phi<A>,
     trial: Trial<LaneSet<LANES>>,
     pairs: Vec<Pair<LaneSet<LANES>>, A>,
-    split_values: SplitValues<LaneSet<LANES>, A>,
+    cut_values: CutValues<LaneSet<LANES>, A>,
     refused: bool,
 }
 
@@ -44,13 +44,12 @@ impl<const LANES: usize, A: Allocator> Model for HeapJob<LANES, A> {
     } };
 
     ghost use Rattle.pretending.specs.Tables.{IsInto};
-    ghost use Rattle.transition_algebra.specs.Trials.{IsTrial, AreSplitValues, AreTripleValues};
+    ghost use Rattle.transition_algebra.specs.Trials.{IsTrial, AreKept};
 
     ghost invariant = { λ j. (j.table.order ≤ 64 * LANES)
         × IsInto j.table j.phi
         × IsTrial j.code j.table j.phi j.trial j.pairs.items
-        × AreSplitValues j.table j.phi j.split_values.splits.items
-        × AreTripleValues j.table j.phi j.split_values.triples.items };
+        × AreKept j.table j.phi j.cut_values };
 }
 
 impl<const LANES: usize, A: Allocator + Copy> HeapJob<LANES, A> {
@@ -68,7 +67,7 @@ impl<const LANES: usize, A: Allocator + Copy> HeapJob<LANES, A> {
             phi,
             trial,
             pairs: Vec::new(alloc),
-            split_values: SplitValues::new(alloc),
+            cut_values: CutValues::new(alloc),
             refused: false,
         }
     }
@@ -116,7 +115,7 @@ impl<const LANES: usize, A: Allocator> HeapJob<LANES, A> {
             &self.table,
             &self.phi,
             &mut self.pairs,
-            &mut self.split_values,
+            &mut self.cut_values,
             units,
         );
         self.refused = made.is_err();
@@ -158,7 +157,7 @@ impl<const LANES: usize, A: Allocator> HeapJob<LANES, A> {
             &self.table,
             &self.phi,
             &mut self.pairs,
-            &mut self.split_values,
+            &mut self.cut_values,
             most,
         );
         self.refused = tried.is_err();

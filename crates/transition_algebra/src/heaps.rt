@@ -7,8 +7,8 @@ ghost use Rattle.pretending.specs.Pretending.{HasElement};
 ghost use Rattle.pretending.specs.Tables.{IsInto};
 ghost use Rattle.transition_algebra.specs.Heaps.{AreAllHeapPairs, all_heap_pairs, bound_of, left_value};
 
+use crate::cut_values::CutValues;
 use crate::pair::Pair;
-use crate::split_values::SplitValues;
 use crate::trial::Trial;
 use allocation::Memory;
 use element_sets::LaneSet;
@@ -85,7 +85,7 @@ pub fn heap_pairs<const LANES: usize, A: Allocator + Copy>(
     is_code(code);
     let mut trial = Trial::new(code, phi);
     let mut pairs = Vec::new(alloc);
-    let mut split_values = SplitValues::new(alloc);
-    trial.work(code, table, phi, &mut pairs, &mut split_values, u64::MAX)?;
+    let mut cut_values = CutValues::new(alloc);
+    trial.work(code, table, phi, &mut pairs, &mut cut_values, u64::MAX)?;
     Ok(pairs)
 }

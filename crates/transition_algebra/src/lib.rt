@@ -4,11 +4,11 @@
 //! are a commutative monoid, and the heaps 1 to B show the pair of every heap.
 #![tactic(auto)]
 
+mod cut_values;
 mod heap_job;
 mod heaps;
 mod laws;
 mod pair;
-mod split_values;
 mod trial;
 
 pub use heap_job::HeapJob;

@@ -9,16 +9,16 @@ ghost use Rattle.pretending.specs.Pretending.{phi_at, HasElement};
 ghost use Rattle.pretending.specs.Tables.{IsInto};
 ghost use Rattle.transition_algebra.specs.Heaps.{bound_of};
 ghost use Rattle.transition_algebra.specs.Work.{heap_cost};
-ghost use Rattle.transition_algebra.specs.Trials.{IsTrial, IsReady, IsRun, AreSplitValues, AreTripleValues, HaveElements, after_single, after_splits, after_triples, after_row, after_all, after_all_triples, after_heap};
+ghost use Rattle.transition_algebra.specs.Trials.{IsTrial, IsReady, IsRun, AreShown, AreKept, after_single, after_splits, after_triples, after_row, after_cut, after_heap};
 
+use crate::cut_values::{Cut, CutValues};
 use crate::heaps::{bound_of, largest_part, left_value};
 use crate::pair::Pair;
-use crate::split_values::SplitValues;
 use allocation::Memory;
 use element_sets::LaneSet;
 use heap_options::{Untried, Walk};
 use monoid_table::{Table, is_monoid};
-use octal_code::{Code, Leaving, is_code};
+use octal_code::{Code, is_code};
 use pretending::{Phi, is_pretending};
 use std::alloc::Allocator;
 
@@ -89,36 +89,6 @@ impl<const LANES: usize> Trial<LaneSet<LANES>> {
         count
     }
 
-    /// Takes over the values of the splits, once their units are spent, and turns to what takes
-    /// more away.
-    fn take_splits<A: Allocator>(
-        &mut self,
-        code: &Code,
-        table: &Table<A>,
-        phi: &Phi<A>,
-        pairs: &[Pair<LaneSet<LANES>>],
-        split_values: &mut SplitValues<LaneSet<LANES>, A>,
-    ) -> Result<(), Memory>
-        requires kept { AreSplitValues table.now phi.now split_values.old.splits.items }
-        requires kept_triples { AreTripleValues table.now phi.now split_values.old.triples.items }
-        requires fits { table.now.order ≤ 64 * LANES }
-        requires elements { HaveElements phi.now pairs.now }
-        requires inside { All (λ p. p.value < table.now.order) pairs.now }
-        requires within { self.old.walk.heap ≤ length pairs.now + 1 }
-        requires digit { self.old.walk.away < length code.now }
-        ensures kept { AreSplitValues table.now phi.now split_values.new.splits.items }
-        ensures kept_triples { AreTripleValues table.now phi.now split_values.new.triples.items }
-        ensures trial { OnOk result (self.new ≡ after_all code.now table.now phi.now self.old) }
-        ensures err { OnErr result (self.new ≡ self.old) }
-    {
-        if code.allows(self.walk.away, Leaving::TwoHeaps) {
-            let values = split_values.values(table, phi, pairs, self.walk.whole())?;
-            self.seen.union_with(&values);
-        }
-        self.walk.pass_last_split(code);
-        Ok(())
-    }
-
     /// Spends a unit for each triple with this first part, the second from `second` on, at most
     /// `units`.
     fn spend_triples(&mut self, code: &Code, first: u64, second: u64, units: u64) -> u64
@@ -150,30 +120,33 @@ impl<const LANES: usize> Trial<LaneSet<LANES>> {
         self.walk.pass_row(code, first);
     }
 
-    /// Takes over the values of the triples, once their units are spent, and takes one more away.
-    fn take_triples<A: Allocator>(
+    /// Takes over the values of the splits or of the triples, once their units are spent, and turns to
+    /// what comes behind them.
+    fn take_values<A: Allocator>(
         &mut self,
+        cut: Cut,
         code: &Code,
         table: &Table<A>,
         phi: &Phi<A>,
         pairs: &[Pair<LaneSet<LANES>>],
-        split_values: &mut SplitValues<LaneSet<LANES>, A>,
+        cut_values: &mut CutValues<LaneSet<LANES>, A>,
     ) -> Result<(), Memory>
-        requires kept { AreSplitValues table.now phi.now split_values.old.splits.items }
-        requires kept_triples { AreTripleValues table.now phi.now split_values.old.triples.items }
         requires fits { table.now.order ≤ 64 * LANES }
-        requires elements { HaveElements phi.now pairs.now }
-        requires inside { All (λ p. p.value < table.now.order) pairs.now }
-        requires within { self.old.walk.heap ≤ length pairs.now + 1 }
+        requires shown { AreShown table.now phi.now pairs.now self.old.walk.heap }
+        requires kept { AreKept table.now phi.now cut_values.old }
         requires digit { self.old.walk.away < length code.now }
-        ensures kept { AreSplitValues table.now phi.now split_values.new.splits.items }
-        ensures kept_triples { AreTripleValues table.now phi.now split_values.new.triples.items }
-        ensures trial { OnOk result (self.new ≡ after_all_triples table.now phi.now self.old) }
+        ensures kept { AreKept table.now phi.now cut_values.new }
+        ensures trial { OnOk result (self.new ≡ after_cut cut code.now table.now phi.now self.old) }
         ensures err { OnErr result (self.new ≡ self.old) }
     {
-        let values = split_values.triple_values(table, phi, pairs, self.walk.whole())?;
-        self.seen.union_with(&values);
-        self.walk.take_more(code);
+        if code.allows(self.walk.away, cut.leaving()) {
+            let values = cut_values.of(cut, table, phi, pairs, self.walk.whole())?;
+            self.seen.union_with(&values);
+        }
+        match cut {
+            Cut::InTwo => self.walk.pass_last_split(code),
+            Cut::InThree => self.walk.take_more(code),
+        }
         Ok(())
     }
 
@@ -231,21 +204,19 @@ impl<const LANES: usize> Trial<LaneSet<LANES>> {
         table: &Table<A>,
         phi: &Phi<A>,
         pairs: &mut Vec<Pair<LaneSet<LANES>>, A>,
-        split_values: &mut SplitValues<LaneSet<LANES>, A>,
+        cut_values: &mut CutValues<LaneSet<LANES>, A>,
         units: u64,
     ) -> Result<u64, Memory>
         requires fits { table.now.order ≤ 64 * LANES }
         requires into { IsInto table.now phi.now }
         requires trial { IsTrial code.now table.now phi.now self.old pairs.old.items }
-        requires kept { AreSplitValues table.now phi.now split_values.old.splits.items }
-        requires kept_triples { AreTripleValues table.now phi.now split_values.old.triples.items }
+        requires kept { AreKept table.now phi.now cut_values.old }
         requires going { self.old.walk.heap ≤ self.old.bound }
         requires some { 1 ≤ units }
         ensures ok { IfOk result
             (λ spent. IsRun code.now table.now phi.now self.old self.new pairs.new.items units
             spent) }
-        ensures kept { AreSplitValues table.now phi.now split_values.new.splits.items }
-        ensures kept_triples { AreTripleValues table.now phi.now split_values.new.triples.items }
+        ensures kept { AreKept table.now phi.now cut_values.new }
         ensures err { OnErr result (self.new ≡ self.old) }
         ensures err_pairs { OnErr result (pairs.new.items ≡ pairs.old.items) }
     {
@@ -259,7 +230,7 @@ impl<const LANES: usize> Trial<LaneSet<LANES>> {
             Untried::Splits(part) => {
                 let spent = self.spend_splits(code, part, units);
                 if spent == 0 {
-                    self.take_splits(code, table, phi, pairs, split_values)?;
+                    self.take_values(Cut::InTwo, code, table, phi, pairs, cut_values)?;
                 }
                 Ok(spent)
             }
@@ -271,7 +242,7 @@ impl<const LANES: usize> Trial<LaneSet<LANES>> {
                 if first < self.walk.last_first() {
                     self.next_row(code, first);
                 } else {
-                    self.take_triples(code, table, phi, pairs, split_values)?;
+                    self.take_values(Cut::InThree, code, table, phi, pairs, cut_values)?;
                 }
                 Ok(0)
             }
@@ -285,17 +256,15 @@ impl<const LANES: usize> Trial<LaneSet<LANES>> {
         table: &Table<A>,
         phi: &Phi<A>,
         pairs: &mut Vec<Pair<LaneSet<LANES>>, A>,
-        split_values: &mut SplitValues<LaneSet<LANES>, A>,
+        cut_values: &mut CutValues<LaneSet<LANES>, A>,
         units: u64,
     ) -> Result<(), Memory>
         requires fits { table.now.order ≤ 64 * LANES }
         requires into { IsInto table.now phi.now }
         requires trial { IsTrial code.now table.now phi.now self.old pairs.old.items }
-        requires kept { AreSplitValues table.now phi.now split_values.old.splits.items }
-        requires kept_triples { AreTripleValues table.now phi.now split_values.old.triples.items }
+        requires kept { AreKept table.now phi.now cut_values.old }
         ensures trial { IsTrial code.now table.now phi.now self.new pairs.new.items }
-        ensures kept { AreSplitValues table.now phi.now split_values.new.splits.items }
-        ensures kept_triples { AreTripleValues table.now phi.now split_values.new.triples.items }
+        ensures kept { AreKept table.now phi.now cut_values.new }
         ensures ok { OnOk result
             (self.new.spent ≡ min (self.old.spent + units) (heap_cost code.now phi.now)) }
         ensures err { OnErr result ((self.old.spent ≤ self.new.spent)
@@ -306,7 +275,7 @@ impl<const LANES: usize> Trial<LaneSet<LANES>> {
         is_code(code);
         let mut left = units;
         while left > 0 && self.walk.heap <= self.bound {
-            left -= self.run(code, table, phi, pairs, split_values, left)?;
+            left -= self.run(code, table, phi, pairs, cut_values, left)?;
         }
         Ok(())
     }
@@ -318,17 +287,15 @@ impl<const LANES: usize> Trial<LaneSet<LANES>> {
         table: &Table<A>,
         phi: &Phi<A>,
         pairs: &mut Vec<Pair<LaneSet<LANES>>, A>,
-        split_values: &mut SplitValues<LaneSet<LANES>, A>,
+        cut_values: &mut CutValues<LaneSet<LANES>, A>,
         units: u64,
     ) -> Result<(), Memory>
         requires fits { table.now.order ≤ 64 * LANES }
         requires into { IsInto table.now phi.now }
         requires trial { IsTrial code.now table.now phi.now self.old pairs.old.items }
-        requires kept { AreSplitValues table.now phi.now split_values.old.splits.items }
-        requires kept_triples { AreTripleValues table.now phi.now split_values.old.triples.items }
+        requires kept { AreKept table.now phi.now cut_values.old }
         ensures trial { IsTrial code.now table.now phi.now self.new pairs.new.items }
-        ensures kept { AreSplitValues table.now phi.now split_values.new.splits.items }
-        ensures kept_triples { AreTripleValues table.now phi.now split_values.new.triples.items }
+        ensures kept { AreKept table.now phi.now cut_values.new }
         ensures spent { (self.old.spent ≤ self.new.spent)
             × (self.new.spent ≤ self.old.spent + units) }
         ensures going { self.old.spent < heap_cost code.now phi.now
@@ -343,7 +310,7 @@ impl<const LANES: usize> Trial<LaneSet<LANES>> {
         is_code(code);
         let mut left = units;
         while left > 0 && self.walk.heap < self.bound {
-            left -= self.run(code, table, phi, pairs, split_values, left)?;
+            left -= self.run(code, table, phi, pairs, cut_values, left)?;
         }
         Ok(())
     }

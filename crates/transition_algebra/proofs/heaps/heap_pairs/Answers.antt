@@ -47,7 +47,7 @@ work-requires g c = (
       (
         subst (IsTrial c.args.code.now c.args.table.now c.args.phi.now c.new-trial.result)
             (sym c.new-pairs.ensures.items) (c.new-trial.ensures.trial c.args.table.now),
-        (search rules, search rules),
+        c.new-cut_values.ensures c.args.table.now c.args.phi.now,
       ),
     ),
   ),

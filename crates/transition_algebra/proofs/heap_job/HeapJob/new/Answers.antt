@@ -8,6 +8,5 @@ invariant_of-result g c = (
   c.requires.into,
   subst (IsTrial c.args.code c.args.table c.args.phi c.new-trial.result)
       (sym c.new.ensures.items) (c.new-trial.ensures.trial c.args.table),
-  c.new-2.ensures.splits c.args.table c.args.phi,
-  c.new-2.ensures.triples c.args.table c.args.phi,
+  c.new-2.ensures c.args.table c.args.phi,
 )

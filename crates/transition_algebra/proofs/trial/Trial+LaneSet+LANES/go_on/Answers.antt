@@ -38,8 +38,7 @@ loop-left-preserved g c =
       omega arith,
       c.run.ensures.kept,
       λ _. omega arith,
-      c.run.ensures.kept_triples,
-      λ late. absurd (let same = ap (λ t. t.walk.heap) (i.6 late) in omega arith),
+      λ late. absurd (let same = ap (λ t. t.walk.heap) (i.5 late) in omega arith),
     )
 
 pub returns-in_err-left-clause-err : goal.returns-in_err-left-clause-err

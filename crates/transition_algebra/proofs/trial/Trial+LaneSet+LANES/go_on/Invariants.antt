@@ -2,16 +2,15 @@ use Rattle.std.proofs.Common.{◌≡◌, ◌+◌, ◌*◌, ◌<◌, ◌≤◌}
 use Rattle.transition_algebra.specs.Heaps.{bound_of}
 use Rattle.transition_algebra.specs.Work.{heap_cost}
 use Rattle.heap_options.specs.Walks.{stages_left}
-use Rattle.transition_algebra.specs.Trials.{IsTrial, AreSplitValues, AreTripleValues}
+use Rattle.transition_algebra.specs.Trials.{IsTrial, AreKept}
 use Rattle.transition_algebra.proofs.trial.Trial+LaneSet+LANES.go_on.Given as goal
 
 abbrev pub invariant-loop-left : goal.invariant-loop-left
 invariant-loop-left g l =
     IsTrial l.code l.table l.phi l.self l.pairs.items
     × (l.self.spent + l.left ≡ l.initial.self.spent + l.initial.left)
-    × (l.left ≤ l.initial.left) × AreSplitValues l.table l.phi l.split_values.splits.items
+    × (l.left ≤ l.initial.left) × AreKept l.table l.phi l.cut_values
     × (l.initial.self.spent < heap_cost l.code l.phi → l.self.spent < heap_cost l.code l.phi)
-    × AreTripleValues l.table l.phi l.split_values.triples.items
     × (bound_of l.code l.phi ≤ l.initial.self.walk.heap → l.self ≡ l.initial.self)
 
 abbrev pub decreases-loop-left : goal.decreases-loop-left

@@ -1,12 +1,11 @@
 -- Case by case, each by its lemma.
-use Rattle.std.proofs.Common.{rules, ◌≡◌, ◌-◌, ◌<◌, ◌≤◌, length, refl, sym, ◌∙◌, ap, subst, arith}
-use Rattle.std.specs.List.{All}
-use Rattle.transition_algebra.specs.Trials.{HaveElements, after_all, after_row, after_all_triples}
+use Rattle.std.proofs.Common.{◌≡◌, ◌-◌, ◌<◌, ◌≤◌, length, refl, ◌∙◌, ap, subst, arith}
+use Rattle.transition_algebra.specs.Trials.{after_cut, after_row}
+use Rattle.transition_algebra.specs.declared.cut_values.Cut.TheVariants.{InTwo, InThree}
 use Rattle.heap_options.specs.Options.{last_first}
 use Rattle.heap_options.proofs.WalkLaws.{single_short}
 use Rattle.transition_algebra.proofs.Ready.{not_over}
-use Rattle.transition_algebra.proofs.SplitRuns.{run_single, run_none, run_splits}
-use Rattle.transition_algebra.proofs.TripleRuns.{run_triples, run_row, run_last_row}
+use Rattle.transition_algebra.proofs.Runs.{run_single, run_none, run_splits, run_triples, run_row, run_last_row}
 use Rattle.transition_algebra.proofs.HeapRuns.{run_close}
 use Rattle.transition_algebra.proofs.trial.Trial+LaneSet+LANES.run.Goals as goal
 
@@ -23,45 +22,41 @@ pub returns-in-Everything-clause-ok : goal.returns-in-Everything-clause-ok
 returns-in-Everything-clause-ok g c =
     let inside : c.args.self.now.walk.away < length c.args.code.now =
     not_over c.is_over.result c.is_over.ensures.over c.if-is_over.false in
-    run_single c.args.code.now c.args.table.now c.args.phi.now c.args.self.now c.try_single.new.self
-    c.args.pairs.now.items c.args.units c.try_single.result
-    c.requires.trial c.is_ready.ensures.going inside c.in-Everything.is c.requires.some
+    run_single c.args.code.now c.args.table.now c.args.phi.now c.args.self.now
+    c.args.pairs.now.items c.args.units c.requires.trial c.is_ready.ensures.going
+    c.try_single.new.self c.try_single.result inside c.in-Everything.is c.requires.some
     (single_short c.args.code.now c.args.self.now.walk.heap c.args.self.now.walk.away)
     c.try_single.ensures.count c.try_single.ensures.trial
 
-pub returns-in_ok-take_splits-in-Splits-clause-ok :
-    goal.returns-in_ok-take_splits-in-Splits-clause-ok
-returns-in_ok-take_splits-in-Splits-clause-ok g c =
+pub returns-in_ok-take_values-in-Splits-clause-ok :
+    goal.returns-in_ok-take_values-in-Splits-clause-ok
+returns-in_ok-take_values-in-Splits-clause-ok g c =
     let inside : c.args.self.now.walk.away < length c.args.code.now =
     not_over c.is_over.result c.is_over.ensures.over c.if-is_over.false in
     let none = c.spend_splits-spent.ensures.none c.if-spent-eq0.true in
-    run_none c.args.code.now c.args.table.now c.args.phi.now c.args.self.now c.take_splits.new.self
-    c.args.pairs.now.items c.args.units c.spend_splits-spent.result c.in-Splits.part
-    c.requires.trial c.is_ready.ensures.going inside c.in-Splits.is c.if-spent-eq0.true none.0
-    (c.in_ok-take_splits-in-Splits.ensures.trial
-    ∙ ap (after_all c.args.code.now c.args.table.now c.args.phi.now) none.1)
+    run_none c.args.code.now c.args.table.now c.args.phi.now c.args.self.now
+    c.args.pairs.now.items c.args.units c.requires.trial c.is_ready.ensures.going
+    c.take_values.new.self c.spend_splits-spent.result c.in-Splits.part c.if-spent-eq0.true inside c.in-Splits.is none.0
+    (c.in_ok-take_values-in-Splits.ensures.trial
+    ∙ ap (after_cut InTwo c.args.code.now c.args.table.now c.args.phi.now) none.1)
 
 pub returns-else-spent-eq0-clause-ok : goal.returns-else-spent-eq0-clause-ok
 returns-else-spent-eq0-clause-ok g c =
-    let inside : c.args.self.now.walk.away < length c.args.code.now =
-    not_over c.is_over.result c.is_over.ensures.over c.if-is_over.false in
     let some : 1 ≤ c.spend_splits-spent.result = let f = c.if-spent-eq0.false in omega arith in
     let made = c.spend_splits-spent.ensures.some some in
     run_splits c.args.code.now c.args.table.now c.args.phi.now c.args.self.now
-    c.spend_splits-spent.new.self c.args.pairs.now.items c.args.units
-    c.spend_splits-spent.result c.in-Splits.part
-    c.requires.trial c.is_ready.ensures.going inside c.in-Splits.is some c.spend_splits-spent.ensures.within made.0
-    made.1 made.2
+    c.args.pairs.now.items c.args.units c.requires.trial c.is_ready.ensures.going
+    c.spend_splits-spent.new.self c.spend_splits-spent.result c.in-Splits.part c.in-Splits.is some
+    c.spend_splits-spent.ensures.within made.0 made.1 made.2
 
 pub returns-then-spent-gt0-clause-ok : goal.returns-then-spent-gt0-clause-ok
 returns-then-spent-gt0-clause-ok g c =
     let some : 1 ≤ c.spend_triples-spent.result = let f = c.if-spent-gt0.true in omega arith in
     let made = c.spend_triples-spent.ensures.some some in
     run_triples c.args.code.now c.args.table.now c.args.phi.now c.args.self.now
-    c.spend_triples-spent.new.self c.args.pairs.now.items c.args.units
-    c.spend_triples-spent.result c.in-Triples.first c.in-Triples.second
-    c.requires.trial c.is_ready.ensures.going c.in-Triples.is some c.spend_triples-spent.ensures.within made.1
-    made.2
+    c.args.pairs.now.items c.args.units c.requires.trial c.is_ready.ensures.going
+    c.spend_triples-spent.new.self c.spend_triples-spent.result c.in-Triples.first
+    c.in-Triples.second c.in-Triples.is some c.spend_triples-spent.ensures.within made.1 made.2
 
 pub returns-then-first-last_first-clause-ok : goal.returns-then-first-last_first-clause-ok
 returns-then-first-last_first-clause-ok g c =
@@ -73,13 +68,13 @@ returns-then-first-last_first-clause-ok g c =
     subst (λ t. c.in-Triples.first < last_first (t.walk.heap - t.walk.away) t.walk.most) none.1
     (let f = c.if-first-last_first.true in omega arith) in
     run_row c.args.code.now c.args.table.now c.args.phi.now c.args.self.now
-    c.next_row.new.self c.args.pairs.now.items c.args.units c.in-Triples.first
-    c.in-Triples.second c.requires.trial c.is_ready.ensures.going c.in-Triples.is none.0 less
+    c.args.pairs.now.items c.args.units c.requires.trial c.is_ready.ensures.going
+    c.next_row.new.self c.in-Triples.first c.in-Triples.second c.in-Triples.is none.0 less
     (c.next_row.ensures ∙ ap (λ t. after_row t c.in-Triples.first) none.1)
 
-pub returns-in_ok-take_triples-in-Triples-clause-ok :
-    goal.returns-in_ok-take_triples-in-Triples-clause-ok
-returns-in_ok-take_triples-in-Triples-clause-ok g c =
+pub returns-in_ok-take_values-in-Triples-clause-ok :
+    goal.returns-in_ok-take_values-in-Triples-clause-ok
+returns-in_ok-take_values-in-Triples-clause-ok g c =
     let inside : c.args.self.now.walk.away < length c.args.code.now =
     not_over c.is_over.result c.is_over.ensures.over c.if-is_over.false in
     let zero : c.spend_triples-spent.result ≡ 0 = let f = c.if-spent-gt0.false in omega arith in
@@ -90,68 +85,7 @@ returns-in_ok-take_triples-in-Triples-clause-ok g c =
     subst (λ t. last_first (t.walk.heap - t.walk.away) t.walk.most ≤ c.in-Triples.first) none.1
     (let f = c.if-first-last_first.false in omega arith) in
     run_last_row c.args.code.now c.args.table.now c.args.phi.now c.args.self.now
-    c.take_triples.new.self c.args.pairs.now.items c.args.units c.in-Triples.first
-    c.in-Triples.second c.requires.trial c.is_ready.ensures.going inside c.in-Triples.is none.0 last
-    (c.in_ok-take_triples-in-Triples.ensures.trial
-    ∙ ap (after_all_triples c.args.table.now c.args.phi.now) none.1)
-
-pub take_splits-requires : goal.take_splits-requires
-take_splits-requires g c = (
-  search rules,
-  ((
-    search rules,
-    (
-      search rules,
-      (
-        search rules,
-        (
-          (let phi = c.args.phi.now in
-              subst (HaveElements phi) (sym c.deref.ensures.value) c.is_ready.ensures.elements),
-          (
-            (let order = c.args.table.now.order in
-                subst (All (λ p. p.value < order)) (sym c.deref.ensures.value)
-                c.is_ready.ensures.inside),
-            (
-              (let s = c.is_ready.ensures.within in
-                  let e = ap length c.deref.ensures.value in
-                  let h = ap (λ t. t.walk.heap) (c.spend_splits-spent.ensures.none c.if-spent-eq0.true).1 in
-                  omega arith),
-              search rules,
-            ),
-          ),
-        ),
-      ),
-    ),
-  )),
-)
-
-pub take_triples-requires : goal.take_triples-requires
-take_triples-requires g c = (
-  search rules,
-  ((
-    search rules,
-    (
-      search rules,
-      (
-        search rules,
-        (
-          (let phi = c.args.phi.now in
-              subst (HaveElements phi) (sym c.deref-else-first-last_first.ensures.value) c.is_ready.ensures.elements),
-          (
-            (let order = c.args.table.now.order in
-                subst (All (λ p. p.value < order)) (sym c.deref-else-first-last_first.ensures.value)
-                c.is_ready.ensures.inside),
-            (
-              (let s = c.is_ready.ensures.within in
-                  let e = ap length c.deref-else-first-last_first.ensures.value in
-                  let zero : c.spend_triples-spent.result ≡ 0 = let f = c.if-spent-gt0.false in omega arith in
-                  let h = ap (λ t. t.walk.heap) (c.spend_triples-spent.ensures.none zero).1 in
-                  omega arith),
-              search rules,
-            ),
-          ),
-        ),
-      ),
-    ),
-  )),
-)
+    c.args.pairs.now.items c.args.units c.requires.trial c.is_ready.ensures.going
+    c.take_values-else-first-last_first.new.self c.in-Triples.first c.in-Triples.second inside c.in-Triples.is none.0 last
+    (c.in_ok-take_values-in-Triples.ensures.trial
+    ∙ ap (after_cut InThree c.args.code.now c.args.table.now c.args.phi.now) none.1)

@@ -2,7 +2,7 @@ use Rattle.std.proofs.Common.{◌+◌, ◌-◌, ◌∙◌, sym, arith}
 use Rattle.heap_options.specs.Options.{triples_at}
 use Rattle.transition_algebra.specs.Heaps.{largest_part}
 use Rattle.transition_algebra.proofs.Coming.{rows_more, rows_none}
-use Rattle.transition_algebra.proofs.split_values.values_of_triples.Goals as goal
+use Rattle.transition_algebra.proofs.cut_values.values_of_triples.Goals as goal
 
 pub loop-first-preserved : goal.loop-first-preserved
 loop-first-preserved g c =

@@ -2,7 +2,7 @@ use Rattle.std.proofs.Common.{◌≡◌, ◌-◌}
 use Rattle.heap_options.specs.Options.{row, triples_at}
 use Rattle.transition_algebra.specs.Heaps.{largest_part}
 use Rattle.transition_algebra.specs.Trials.{with_left}
-use Rattle.transition_algebra.proofs.split_values.put_row.Given as goal
+use Rattle.transition_algebra.proofs.cut_values.put_row.Given as goal
 
 abbrev pub invariant-loop-second : goal.invariant-loop-second
 invariant-loop-second g l =
