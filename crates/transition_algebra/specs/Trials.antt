@@ -19,6 +19,7 @@ use Rattle.transition_algebra.specs.Pairs.{one}
 use Rattle.transition_algebra.specs.Heaps.{bound_of, largest_part, left_value}
 use Rattle.transition_algebra.specs.Work.{Trying, opening, turns, heap_cost}
 use Rattle.transition_algebra.specs.OverSets.{Pair, Trial, CutValues}
+use Rattle.transition_algebra.specs.declared.scene.Scene.{Scene}
 use Rattle.transition_algebra.specs.declared.cut_values.Cut.{Cut}
 use Rattle.transition_algebra.specs.declared.cut_values.Cut.TheVariants.{InTwo, InThree}
 
@@ -161,6 +162,12 @@ pub record IsTrial (code : List ℕ) (table : Grid) (phi : Pretending) (t : Tria
   pub untried_in : IsUntried code t.walk.heap (largest_part phi) t.walk.away t.walk.untried
   pub within : t.spent ≤ heap_cost code phi
   pub reached : trying_of code table phi t pairs ≡ turns code table phi t.spent (opening code phi)
+
+-- so are they in the scene, and the values that are kept are its own
+pub record GoesOn {L : ℕ} {A : Type 0} (scene : Scene L A) (t : Trial) (pairs : List Pair)
+    (values : CutValues A) : Type 0 where
+  pub trial : IsTrial scene.code.now scene.table.now scene.phi.now t pairs
+  pub kept : AreKept scene.table.now scene.phi.now values
 
 -- What the next turn needs: the heap in hand has an element, and the pairs are those of the smaller
 -- heaps.

@@ -7,6 +7,7 @@ ghost use Rattle.transition_algebra.specs.Work.{IsDone, worked, heap_cost, turns
 
 use crate::cut_values::CutValues;
 use crate::pair::Pair;
+use crate::scene::Scene;
 use crate::trial::Trial;
 use allocation::Memory;
 use element_sets::LaneSet;
@@ -110,14 +111,14 @@ impl<const LANES: usize, A: Allocator> HeapJob<LANES, A> {
         if self.refused {
             return Err(Memory);
         }
-        let made = self.trial.work(
-            &self.code,
-            &self.table,
-            &self.phi,
-            &mut self.pairs,
-            &mut self.cut_values,
-            units,
-        );
+        let scene = Scene {
+            code: &self.code,
+            table: &self.table,
+            phi: &self.phi,
+        };
+        let made = self
+            .trial
+            .work(&scene, &mut self.pairs, &mut self.cut_values, units);
         self.refused = made.is_err();
         made?;
         Ok(self.trial.is_over())
@@ -152,14 +153,14 @@ impl<const LANES: usize, A: Allocator> HeapJob<LANES, A> {
         if self.refused {
             return;
         }
-        let tried = self.trial.go_on(
-            &self.code,
-            &self.table,
-            &self.phi,
-            &mut self.pairs,
-            &mut self.cut_values,
-            most,
-        );
+        let scene = Scene {
+            code: &self.code,
+            table: &self.table,
+            phi: &self.phi,
+        };
+        let tried = self
+            .trial
+            .go_on(&scene, &mut self.pairs, &mut self.cut_values, most);
         self.refused = tried.is_err();
     }
 

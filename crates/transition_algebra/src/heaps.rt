@@ -9,6 +9,7 @@ ghost use Rattle.transition_algebra.specs.Heaps.{AreAllHeapPairs, all_heap_pairs
 
 use crate::cut_values::CutValues;
 use crate::pair::Pair;
+use crate::scene::Scene;
 use crate::trial::Trial;
 use allocation::Memory;
 use element_sets::LaneSet;
@@ -83,9 +84,10 @@ pub fn heap_pairs<const LANES: usize, A: Allocator + Copy>(
     is_monoid(table);
     is_pretending(phi);
     is_code(code);
+    let scene = Scene { code, table, phi };
     let mut trial = Trial::new(code, phi);
     let mut pairs = Vec::new(alloc);
     let mut cut_values = CutValues::new(alloc);
-    trial.work(code, table, phi, &mut pairs, &mut cut_values, u64::MAX)?;
+    trial.work(&scene, &mut pairs, &mut cut_values, u64::MAX)?;
     Ok(pairs)
 }

@@ -9,6 +9,7 @@ mod heap_job;
 mod heaps;
 mod laws;
 mod pair;
+mod scene;
 mod trial;
 
 pub use heap_job::HeapJob;

@@ -6,18 +6,18 @@ ghost use Rattle.octal_code.specs.declared.leaving.Leaving.TheVariants.{TwoHeaps
 ghost use Rattle.heap_options.specs.Options.{last_first, last_second};
 ghost use Rattle.heap_options.specs.Walks.{single_left, last_part, triples_to_try};
 ghost use Rattle.pretending.specs.Pretending.{phi_at, HasElement};
-ghost use Rattle.pretending.specs.Tables.{IsInto};
 ghost use Rattle.transition_algebra.specs.Heaps.{bound_of};
 ghost use Rattle.transition_algebra.specs.Work.{heap_cost};
-ghost use Rattle.transition_algebra.specs.Trials.{IsTrial, IsReady, IsRun, AreShown, AreKept, after_single, after_splits, after_triples, after_row, after_cut, after_heap};
+ghost use Rattle.transition_algebra.specs.Trials.{IsTrial, GoesOn, IsReady, IsRun, AreShown, AreKept, after_single, after_splits, after_triples, after_row, after_cut, after_heap};
 
 use crate::cut_values::{Cut, CutValues};
 use crate::heaps::{bound_of, largest_part, left_value};
 use crate::pair::Pair;
+use crate::scene::Scene;
 use allocation::Memory;
 use element_sets::LaneSet;
 use heap_options::{Untried, Walk};
-use monoid_table::{Table, is_monoid};
+use monoid_table::is_monoid;
 use octal_code::{Code, is_code};
 use pretending::{Phi, is_pretending};
 use std::alloc::Allocator;
@@ -50,18 +50,16 @@ impl<const LANES: usize> Trial<LaneSet<LANES>> {
 
     /// Tries the option that leaves one heap at most, if there is one.
     #[tactic(auto, unfolding(crate::specs::Trials::with_left))]
-    fn try_single<A: Allocator>(&mut self, code: &Code, table: &Table<A>, phi: &Phi<A>) -> u64
-        requires fits { table.now.order ≤ 64 * LANES }
-        requires into { IsInto table.now phi.now }
-        requires counts { HasElement phi.now self.old.walk.heap }
+    fn try_single<A: Allocator>(&mut self, scene: &Scene<'_, LANES, A>) -> u64
+        requires counts { HasElement scene.now.phi.now self.old.walk.heap }
         requires small { self.old.spent + self.old.walk.heap < 2 ^ 48 }
         ensures count { result
-            ≡ length (single_left code.now self.old.walk.heap self.old.walk.away) }
-        ensures trial { self.new ≡ after_single code.now table.now phi.now self.old }
+            ≡ length (single_left scene.now.code.now self.old.walk.heap self.old.walk.away) }
+        ensures trial { self.new ≡ after_single scene.now.code.now scene.now.table.now scene.now.phi.now self.old }
     {
-        match self.walk.take_single(code) {
+        match self.walk.take_single(scene.code) {
             Some(left) => {
-                self.seen.put(left_value(table, phi, left));
+                self.seen.put(left_value(scene.table, scene.phi, left));
                 self.spent += 1;
                 1
             }
@@ -125,27 +123,24 @@ impl<const LANES: usize> Trial<LaneSet<LANES>> {
     fn take_values<A: Allocator>(
         &mut self,
         cut: Cut,
-        code: &Code,
-        table: &Table<A>,
-        phi: &Phi<A>,
+        scene: &Scene<'_, LANES, A>,
         pairs: &[Pair<LaneSet<LANES>>],
         cut_values: &mut CutValues<LaneSet<LANES>, A>,
     ) -> Result<(), Memory>
-        requires fits { table.now.order ≤ 64 * LANES }
-        requires shown { AreShown table.now phi.now pairs.now self.old.walk.heap }
-        requires kept { AreKept table.now phi.now cut_values.old }
-        requires digit { self.old.walk.away < length code.now }
-        ensures kept { AreKept table.now phi.now cut_values.new }
-        ensures trial { OnOk result (self.new ≡ after_cut cut code.now table.now phi.now self.old) }
+        requires shown { AreShown scene.now.table.now scene.now.phi.now pairs.now self.old.walk.heap }
+        requires kept { AreKept scene.now.table.now scene.now.phi.now cut_values.old }
+        requires digit { self.old.walk.away < length scene.now.code.now }
+        ensures kept { AreKept scene.now.table.now scene.now.phi.now cut_values.new }
+        ensures trial { OnOk result (self.new ≡ after_cut cut scene.now.code.now scene.now.table.now scene.now.phi.now self.old) }
         ensures err { OnErr result (self.new ≡ self.old) }
     {
-        if code.allows(self.walk.away, cut.leaving()) {
-            let values = cut_values.of(cut, table, phi, pairs, self.walk.whole())?;
+        if scene.code.allows(self.walk.away, cut.leaving()) {
+            let values = cut_values.of(cut, scene, pairs, self.walk.whole())?;
             self.seen.union_with(&values);
         }
         match cut {
-            Cut::InTwo => self.walk.pass_last_split(code),
-            Cut::InThree => self.walk.take_more(code),
+            Cut::InTwo => self.walk.pass_last_split(scene.code),
+            Cut::InThree => self.walk.take_more(scene.code),
         }
         Ok(())
     }
@@ -181,68 +176,60 @@ impl<const LANES: usize> Trial<LaneSet<LANES>> {
     #[inline(always)]
     fn is_ready<A: Allocator>(
         &self,
-        code: &Code,
-        table: &Table<A>,
-        phi: &Phi<A>,
+        scene: &Scene<'_, LANES, A>,
         pairs: &Vec<Pair<LaneSet<LANES>>, A>,
     )
-        requires into { IsInto table.now phi.now }
-        requires trial { IsTrial code.now table.now phi.now self.now pairs.now.items }
+        requires trial { IsTrial scene.now.code.now scene.now.table.now scene.now.phi.now self.now pairs.now.items }
         requires going { self.now.walk.heap ≤ self.now.bound }
-        ensures { IsReady code.now table.now phi.now self.now pairs.now.items }
+        ensures { IsReady scene.now.code.now scene.now.table.now scene.now.phi.now self.now pairs.now.items }
     {
-        is_code(code);
-        is_monoid(table);
-        is_pretending(phi);
+        is_code(scene.code);
+        is_monoid(scene.table);
+        is_pretending(scene.phi);
     }
 
     /// Some turns more, at most `units`; where none was made, a stage less is left of the heap.
     #[inline(always)]
     fn run<A: Allocator>(
         &mut self,
-        code: &Code,
-        table: &Table<A>,
-        phi: &Phi<A>,
+        scene: &Scene<'_, LANES, A>,
         pairs: &mut Vec<Pair<LaneSet<LANES>>, A>,
         cut_values: &mut CutValues<LaneSet<LANES>, A>,
         units: u64,
     ) -> Result<u64, Memory>
-        requires fits { table.now.order ≤ 64 * LANES }
-        requires into { IsInto table.now phi.now }
-        requires trial { IsTrial code.now table.now phi.now self.old pairs.old.items }
-        requires kept { AreKept table.now phi.now cut_values.old }
+        requires goes_on { GoesOn scene.now self.old pairs.old.items cut_values.old }
         requires going { self.old.walk.heap ≤ self.old.bound }
         requires some { 1 ≤ units }
         ensures ok { IfOk result
-            (λ spent. IsRun code.now table.now phi.now self.old self.new pairs.new.items units
+            (λ spent. IsRun scene.now.code.now scene.now.table.now scene.now.phi.now self.old self.new pairs.new.items units
             spent) }
-        ensures kept { AreKept table.now phi.now cut_values.new }
+        ensures kept { AreKept scene.now.table.now scene.now.phi.now cut_values.new }
         ensures err { OnErr result (self.new ≡ self.old) }
         ensures err_pairs { OnErr result (pairs.new.items ≡ pairs.old.items) }
     {
-        self.is_ready(code, table, phi, pairs);
-        if self.walk.is_over(code) {
-            self.close(phi, pairs)?;
+        self.is_ready(scene, pairs);
+        if self.walk.is_over(scene.code) {
+            self.close(scene.phi, pairs)?;
             return Ok(1);
         }
         match self.walk.untried {
-            Untried::Everything => Ok(self.try_single(code, table, phi)),
+            Untried::Everything => Ok(self.try_single(scene)),
             Untried::Splits(part) => {
-                let spent = self.spend_splits(code, part, units);
+                let spent = self.spend_splits(scene.code, part, units);
                 if spent == 0 {
-                    self.take_values(Cut::InTwo, code, table, phi, pairs, cut_values)?;
+                    self.take_values(Cut::InTwo, scene, pairs, cut_values)?;
                 }
                 Ok(spent)
             }
             Untried::Triples(first, second) => {
-                let spent = self.spend_triples(code, first, second, units);
+                let spent = self.spend_triples(scene.code, first, second, units);
                 if spent > 0 {
                     return Ok(spent);
                 }
                 if first < self.walk.last_first() {
-                    self.next_row(code, first);
+                    self.next_row(scene.code, first);
                 } else {
-                    self.take_values(Cut::InThree, code, table, phi, pairs, cut_values)?;
+                    self.take_values(Cut::InThree, scene, pairs, cut_values)?;
                 }
                 Ok(0)
             }
@@ -252,30 +239,24 @@ impl<const LANES: usize> Trial<LaneSet<LANES>> {
     /// The next turns, `units` of them or, if fewer are left, all.
     pub(crate) fn work<A: Allocator>(
         &mut self,
-        code: &Code,
-        table: &Table<A>,
-        phi: &Phi<A>,
+        scene: &Scene<'_, LANES, A>,
         pairs: &mut Vec<Pair<LaneSet<LANES>>, A>,
         cut_values: &mut CutValues<LaneSet<LANES>, A>,
         units: u64,
     ) -> Result<(), Memory>
-        requires fits { table.now.order ≤ 64 * LANES }
-        requires into { IsInto table.now phi.now }
-        requires trial { IsTrial code.now table.now phi.now self.old pairs.old.items }
-        requires kept { AreKept table.now phi.now cut_values.old }
-        ensures trial { IsTrial code.now table.now phi.now self.new pairs.new.items }
-        ensures kept { AreKept table.now phi.now cut_values.new }
+        requires goes_on { GoesOn scene.now self.old pairs.old.items cut_values.old }
+        ensures goes_on { GoesOn scene.now self.new pairs.new.items cut_values.new }
         ensures ok { OnOk result
-            (self.new.spent ≡ min (self.old.spent + units) (heap_cost code.now phi.now)) }
+            (self.new.spent ≡ min (self.old.spent + units) (heap_cost scene.now.code.now scene.now.phi.now)) }
         ensures err { OnErr result ((self.old.spent ≤ self.new.spent)
             × (self.new.spent < self.old.spent + units)
-            × (self.new.spent < heap_cost code.now phi.now)) }
+            × (self.new.spent < heap_cost scene.now.code.now scene.now.phi.now)) }
     {
-        is_pretending(phi);
-        is_code(code);
+        is_pretending(scene.phi);
+        is_code(scene.code);
         let mut left = units;
         while left > 0 && self.walk.heap <= self.bound {
-            left -= self.run(code, table, phi, pairs, cut_values, left)?;
+            left -= self.run(scene, pairs, cut_values, left)?;
         }
         Ok(())
     }
@@ -283,34 +264,28 @@ impl<const LANES: usize> Trial<LaneSet<LANES>> {
     /// The next turns, at most `units`, while a heap smaller than the last is in hand.
     pub(crate) fn go_on<A: Allocator>(
         &mut self,
-        code: &Code,
-        table: &Table<A>,
-        phi: &Phi<A>,
+        scene: &Scene<'_, LANES, A>,
         pairs: &mut Vec<Pair<LaneSet<LANES>>, A>,
         cut_values: &mut CutValues<LaneSet<LANES>, A>,
         units: u64,
     ) -> Result<(), Memory>
-        requires fits { table.now.order ≤ 64 * LANES }
-        requires into { IsInto table.now phi.now }
-        requires trial { IsTrial code.now table.now phi.now self.old pairs.old.items }
-        requires kept { AreKept table.now phi.now cut_values.old }
-        ensures trial { IsTrial code.now table.now phi.now self.new pairs.new.items }
-        ensures kept { AreKept table.now phi.now cut_values.new }
+        requires goes_on { GoesOn scene.now self.old pairs.old.items cut_values.old }
+        ensures goes_on { GoesOn scene.now self.new pairs.new.items cut_values.new }
         ensures spent { (self.old.spent ≤ self.new.spent)
             × (self.new.spent ≤ self.old.spent + units) }
-        ensures going { self.old.spent < heap_cost code.now phi.now
-            → self.new.spent < heap_cost code.now phi.now }
-        ensures last { bound_of code.now phi.now ≤ self.old.walk.heap → self.new ≡ self.old }
+        ensures going { self.old.spent < heap_cost scene.now.code.now scene.now.phi.now
+            → self.new.spent < heap_cost scene.now.code.now scene.now.phi.now }
+        ensures last { bound_of scene.now.code.now scene.now.phi.now ≤ self.old.walk.heap → self.new ≡ self.old }
         ensures taken { OnOk result ((self.new.spent ≡ self.old.spent + units)
-            ⊎ (bound_of code.now phi.now ≤ self.new.walk.heap)) }
+            ⊎ (bound_of scene.now.code.now scene.now.phi.now ≤ self.new.walk.heap)) }
         ensures err { OnErr result ((self.new.spent < self.old.spent + units)
-            × (self.new.walk.heap < bound_of code.now phi.now)) }
+            × (self.new.walk.heap < bound_of scene.now.code.now scene.now.phi.now)) }
     {
-        is_pretending(phi);
-        is_code(code);
+        is_pretending(scene.phi);
+        is_code(scene.code);
         let mut left = units;
         while left > 0 && self.walk.heap < self.bound {
-            left -= self.run(code, table, phi, pairs, cut_values, left)?;
+            left -= self.run(scene, pairs, cut_values, left)?;
         }
         Ok(())
     }

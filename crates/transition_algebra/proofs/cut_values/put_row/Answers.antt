@@ -9,15 +9,15 @@ use Rattle.transition_algebra.proofs.cut_values.put_row.Goals as goal
 
 pub returns : goal.returns
 returns g c =
-    sym (part_none c.args.table.now c.args.phi.now
+    sym (part_none c.args.scene.now.table.now c.args.scene.now.phi.now
     (λ e. Three c.args.first e (c.args.whole - c.args.first - e)) c.loop-second.second
     (c.min-last.result + 1 - c.loop-second.second) c.loop-second.all
     (let b = c.loop-second-test.false in omega arith)) ∙ c.loop-second.invariant
 
 pub loop-second-preserved : goal.loop-second-preserved
 loop-second-preserved g c =
-    let table = c.args.table.now in
-    let phi = c.args.phi.now in
+    let table = c.args.scene.now.table.now in
+    let phi = c.args.scene.now.phi.now in
     let m = c.args.whole in
     let a = c.args.first in
     let b = c.loop-second.second in

@@ -6,5 +6,5 @@ use Rattle.transition_algebra.proofs.cut_values.put_row.Given as goal
 
 abbrev pub invariant-loop-second : goal.invariant-loop-second
 invariant-loop-second g l =
-    with_left l.table l.phi l.all (row l.whole l.first l.second (l.second-end - l.second))
-    ≡ with_left l.table l.phi l.fn.all (triples_at l.whole (largest_part l.phi) l.first)
+    with_left l.scene.table.now l.scene.phi.now l.all (row l.whole l.first l.second (l.second-end - l.second))
+    ≡ with_left l.scene.table.now l.scene.phi.now l.fn.all (triples_at l.whole (largest_part l.scene.phi.now) l.first)

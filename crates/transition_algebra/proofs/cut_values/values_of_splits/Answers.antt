@@ -9,8 +9,8 @@ use Rattle.transition_algebra.proofs.cut_values.values_of_splits.Goals as goal
 
 pub loop-part-preserved : goal.loop-part-preserved
 loop-part-preserved g c =
-    let table = c.args.table.now in
-    let phi = c.args.phi.now in
+    let table = c.args.scene.now.table.now in
+    let phi = c.args.scene.now.phi.now in
     let ps = c.args.pairs.now in
     let n = c.loop-part.part in
     let m = c.args.whole - c.loop-part.part in
@@ -31,6 +31,6 @@ loop-part-preserved g c =
 
 pub returns : goal.returns
 returns g c =
-    sym (part_none c.args.table.now c.args.phi.now (λ b. Two b (c.args.whole - b)) c.loop-part.part
+    sym (part_none c.args.scene.now.table.now c.args.scene.now.phi.now (λ b. Two b (c.args.whole - b)) c.loop-part.part
     (c.min-last.result + 1 - c.loop-part.part) c.loop-part.all
     (let b = c.loop-part-test.false in omega arith)) ∙ c.loop-part.invariant

@@ -6,5 +6,5 @@ use Rattle.transition_algebra.proofs.cut_values.values_of_splits.Given as goal
 
 abbrev pub invariant-loop-part : goal.invariant-loop-part
 invariant-loop-part g l =
-    with_left l.table l.phi l.all (splits l.whole l.part (l.part-end - l.part))
-    ≡ cut_values InTwo l.table l.phi l.whole
+    with_left l.scene.table.now l.scene.phi.now l.all (splits l.whole l.part (l.part-end - l.part))
+    ≡ cut_values InTwo l.scene.table.now l.scene.phi.now l.whole

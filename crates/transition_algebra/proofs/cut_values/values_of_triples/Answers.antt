@@ -6,15 +6,15 @@ use Rattle.transition_algebra.proofs.cut_values.values_of_triples.Goals as goal
 
 pub loop-first-preserved : goal.loop-first-preserved
 loop-first-preserved g c =
-    rows_more c.args.table.now c.args.phi.now
-    (triples_at c.args.whole (largest_part c.args.phi.now)) c.loop-first.first
+    rows_more c.args.scene.now.table.now c.args.scene.now.phi.now
+    (triples_at c.args.whole (largest_part c.args.scene.now.phi.now)) c.loop-first.first
     (c.min-last.result + 1) c.loop-first.all c.put_row.new.all c.loop-first-test.true
     c.put_row.ensures
     ∙ c.loop-first.invariant
 
 pub returns : goal.returns
 returns g c =
-    sym (rows_none c.args.table.now c.args.phi.now
-    (triples_at c.args.whole (largest_part c.args.phi.now)) c.loop-first.first
+    sym (rows_none c.args.scene.now.table.now c.args.scene.now.phi.now
+    (triples_at c.args.whole (largest_part c.args.scene.now.phi.now)) c.loop-first.first
     (c.min-last.result + 1 - c.loop-first.first) c.loop-first.all
     (let b = c.loop-first-test.false in omega arith)) ∙ c.loop-first.invariant

@@ -8,7 +8,7 @@ use Rattle.transition_algebra.proofs.cut_values.values_of_triples.Given as goal
 
 abbrev pub invariant-loop-first : goal.invariant-loop-first
 invariant-loop-first g l =
-    with_left l.table l.phi l.all
-    (flat_map (triples_at l.whole (largest_part l.phi))
+    with_left l.scene.table.now l.scene.phi.now l.all
+    (flat_map (triples_at l.whole (largest_part l.scene.phi.now))
     (range_with_len l.first (l.first-end - l.first)))
-    ≡ cut_values InThree l.table l.phi l.whole
+    ≡ cut_values InThree l.scene.table.now l.scene.phi.now l.whole

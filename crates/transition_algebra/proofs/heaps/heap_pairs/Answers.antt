@@ -13,7 +13,7 @@ returns-clause-exact g c =
     c.is_code.ensures.code c.is_pretending.ensures c.in_ok-work.ensures.ok in
     finished c.args.code.now c.args.table.now c.is_monoid.ensures.monoid c.args.phi.now
     c.is_pretending.ensures c.requires.into c.work.new.self c.work.new.pairs.items
-    c.in_ok-work.ensures.trial all
+    c.in_ok-work.ensures.goes_on.trial all
 
 pub returns-clause-within : goal.returns-clause-within
 returns-clause-within g c =
@@ -24,7 +24,7 @@ returns-clause-within g c =
     (bound_of c.args.code.now c.args.phi.now) c.work.new.pairs.items (omega arith)
     (finished c.args.code.now c.args.table.now c.is_monoid.ensures.monoid c.args.phi.now
     c.is_pretending.ensures c.requires.into c.work.new.self c.work.new.pairs.items
-    c.in_ok-work.ensures.trial all)
+    c.in_ok-work.ensures.goes_on.trial all)
 
 pub returns-clause-made : goal.returns-clause-made
 returns-clause-made g c =
@@ -35,20 +35,17 @@ returns-clause-made g c =
     c.is_pretending.ensures c.requires.into c.work.new.pairs.items
     (finished c.args.code.now c.args.table.now c.is_monoid.ensures.monoid c.args.phi.now
     c.is_pretending.ensures c.requires.into c.work.new.self c.work.new.pairs.items
-    c.in_ok-work.ensures.trial all)
+    c.in_ok-work.ensures.goes_on.trial all)
 
 pub work-requires : goal.work-requires
 work-requires g c = (
   search rules,
   (
     search rules,
-    (
-      search rules,
-      (
-        subst (IsTrial c.args.code.now c.args.table.now c.args.phi.now c.new-trial.result)
-            (sym c.new-pairs.ensures.items) (c.new-trial.ensures.trial c.args.table.now),
-        c.new-cut_values.ensures c.args.table.now c.args.phi.now,
-      ),
-    ),
+    record {
+      trial = subst (IsTrial c.args.code.now c.args.table.now c.args.phi.now c.new-trial.result)
+          (sym c.new-pairs.ensures.items) (c.new-trial.ensures.trial c.args.table.now);
+      kept = c.new-cut_values.ensures c.args.table.now c.args.phi.now;
+    },
   ),
 )

@@ -16,7 +16,7 @@ returns-clause-taken g c = λ fine.
     let t = c.go_on-tried.ensures in
     elim (of_ok c.go_on-tried.result t.taken (sym c.is_err-self-inside.ensures.value ∙ fine)) [
       | inl all ↦ inl (all ∙ ap (λ v. v.spent + c.args.most) c.self.view_is)
-      | inr last ↦ inr (subst (λ h. bound_of j.code j.phi ≤ h) (ap (λ s. s.heap) t.trial.reached) last)
+      | inr last ↦ inr (subst (λ h. bound_of j.code j.phi ≤ h) (ap (λ s. s.heap) t.goes_on.trial.reached) last)
     ]
 
 pub returns-clause-last : goal.returns-clause-last
@@ -35,5 +35,5 @@ returns-clause-short g c = λ failed. λ _.
     let t = c.go_on-tried.ensures in
     let e = of_err c.go_on-tried.result t.err (sym c.is_err-self-inside.ensures.value ∙ failed) in (
       subst (λ v. c.go_on-tried.new.self.spent < v.spent + c.args.most) c.self.view_is e.0,
-      subst (λ h. h < bound_of j.code j.phi) (ap (λ s. s.heap) t.trial.reached) e.1,
+      subst (λ h. h < bound_of j.code j.phi) (ap (λ s. s.heap) t.goes_on.trial.reached) e.1,
     )

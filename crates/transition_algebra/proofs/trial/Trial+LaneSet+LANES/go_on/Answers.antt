@@ -8,11 +8,11 @@ use Rattle.transition_algebra.proofs.trial.Trial+LaneSet+LANES.go_on.Goals as go
 
 pub loop-left-smaller : goal.loop-left-smaller
 loop-left-smaller g c =
-    let code = c.args.code.now in
+    let code = c.args.scene.now.code.now in
     let r = c.in_ok-left.ensures.ok in
     let two = two_digits code c.is_code.ensures.code in
-    let bound = bound_small c.args.phi.now c.is_pretending.ensures code two.1 in
-    let was = c.loop-left.invariant.0.bound_is in
+    let bound = bound_small c.args.scene.now.phi.now c.is_pretending.ensures code two.1 in
+    let was = c.loop-left.invariant.0.trial.bound_is in
     let going = c.if-self.true in
     let next = r.heap in
     measure_falls c.loop-left.left c.in_ok-left.field-0 _
@@ -29,16 +29,15 @@ loop-left-preserved g c =
     let one = r.heap in
     let smaller = c.if-self.true in
     let bound = r.trial.bound_is in
-    let was = i.0.bound_is in
+    let was = i.0.trial.bound_is in
     let all =
-    room c.args.code.now c.args.table.now c.args.phi.now c.run.new.self c.run.new.pairs.items
+    room c.args.scene.now.code.now c.args.scene.now.table.now c.args.scene.now.phi.now c.run.new.self c.run.new.pairs.items
     r.trial (omega arith) in (
-      r.trial,
+      record { trial = r.trial; kept = c.run.ensures.kept },
       omega arith,
       omega arith,
-      c.run.ensures.kept,
       λ _. omega arith,
-      λ late. absurd (let same = ap (λ t. t.walk.heap) (i.5 late) in omega arith),
+      λ late. absurd (let same = ap (λ t. t.walk.heap) (i.4 late) in omega arith),
     )
 
 pub returns-in_err-left-clause-err : goal.returns-in_err-left-clause-err
@@ -49,5 +48,5 @@ returns-in_err-left-clause-err g c =
     let few = c.loop-left.invariant.2 in
     let some = c.loop-left-test.true in
     let smaller = c.if-self.true in
-    let bound = c.loop-left.invariant.0.bound_is in
+    let bound = c.loop-left.invariant.0.trial.bound_is in
     on_err c.from_residual.result (omega arith, omega arith)

@@ -2,16 +2,16 @@ use Rattle.std.proofs.Common.{◌≡◌, ◌+◌, ◌*◌, ◌<◌, ◌≤◌}
 use Rattle.transition_algebra.specs.Heaps.{bound_of}
 use Rattle.transition_algebra.specs.Work.{heap_cost}
 use Rattle.heap_options.specs.Walks.{stages_left}
-use Rattle.transition_algebra.specs.Trials.{IsTrial, AreKept}
+use Rattle.transition_algebra.specs.Trials.{GoesOn}
 use Rattle.transition_algebra.proofs.trial.Trial+LaneSet+LANES.go_on.Given as goal
 
 abbrev pub invariant-loop-left : goal.invariant-loop-left
 invariant-loop-left g l =
-    IsTrial l.code l.table l.phi l.self l.pairs.items
+    GoesOn l.scene l.self l.pairs.items l.cut_values
     × (l.self.spent + l.left ≡ l.initial.self.spent + l.initial.left)
-    × (l.left ≤ l.initial.left) × AreKept l.table l.phi l.cut_values
-    × (l.initial.self.spent < heap_cost l.code l.phi → l.self.spent < heap_cost l.code l.phi)
-    × (bound_of l.code l.phi ≤ l.initial.self.walk.heap → l.self ≡ l.initial.self)
+    × (l.left ≤ l.initial.left)
+    × (l.initial.self.spent < heap_cost l.scene.code.now l.scene.phi.now → l.self.spent < heap_cost l.scene.code.now l.scene.phi.now)
+    × (bound_of l.scene.code.now l.scene.phi.now ≤ l.initial.self.walk.heap → l.self ≡ l.initial.self)
 
 abbrev pub decreases-loop-left : goal.decreases-loop-left
-decreases-loop-left g l = 1000000 * l.left + stages_left l.code l.self.walk
+decreases-loop-left g l = 1000000 * l.left + stages_left l.scene.code.now l.self.walk

@@ -3,6 +3,6 @@ use Rattle.transition_algebra.proofs.trial.Trial+LaneSet+LANES.is_ready.Goals as
 
 pub returns : goal.returns
 returns g c =
-    ready c.args.code.now c.args.table.now c.is_monoid.ensures.monoid c.args.phi.now
-    c.is_pretending.ensures c.requires.into c.args.self.now c.args.pairs.now.items c.requires.trial
+    ready c.args.scene.now.code.now c.args.scene.now.table.now c.is_monoid.ensures.monoid c.args.scene.now.phi.now
+    c.is_pretending.ensures c.args.scene.now.into c.args.self.now c.args.pairs.now.items c.requires.trial
     c.is_code.ensures.code c.requires.going

@@ -11,41 +11,41 @@ use Rattle.transition_algebra.proofs.trial.Trial+LaneSet+LANES.run.Goals as goal
 
 pub returns-then-is_over-clause-ok : goal.returns-then-is_over-clause-ok
 returns-then-is_over-clause-ok g c =
-    let past : length c.args.code.now ≤ c.args.self.now.walk.away =
+    let past : length c.args.scene.now.code.now ≤ c.args.self.now.walk.away =
     c.is_over.ensures.over.0 c.if-is_over.true in
-    run_close c.args.code.now c.args.table.now c.args.phi.now c.args.self.now c.close.new.self
+    run_close c.args.scene.now.code.now c.args.scene.now.table.now c.args.scene.now.phi.now c.args.self.now c.close.new.self
     c.args.pairs.now.items c.close.new.pairs.items c.args.units 1 _
-    c.requires.trial c.is_ready.ensures.going past c.requires.some refl c.in_ok-close.ensures.trial refl
+    c.requires.goes_on.trial c.is_ready.ensures.going past c.requires.some refl c.in_ok-close.ensures.trial refl
     c.in_ok-close.ensures.pair
 
 pub returns-in-Everything-clause-ok : goal.returns-in-Everything-clause-ok
 returns-in-Everything-clause-ok g c =
-    let inside : c.args.self.now.walk.away < length c.args.code.now =
+    let inside : c.args.self.now.walk.away < length c.args.scene.now.code.now =
     not_over c.is_over.result c.is_over.ensures.over c.if-is_over.false in
-    run_single c.args.code.now c.args.table.now c.args.phi.now c.args.self.now
-    c.args.pairs.now.items c.args.units c.requires.trial c.is_ready.ensures.going
+    run_single c.args.scene.now.code.now c.args.scene.now.table.now c.args.scene.now.phi.now c.args.self.now
+    c.args.pairs.now.items c.args.units c.requires.goes_on.trial c.is_ready.ensures.going
     c.try_single.new.self c.try_single.result inside c.in-Everything.is c.requires.some
-    (single_short c.args.code.now c.args.self.now.walk.heap c.args.self.now.walk.away)
+    (single_short c.args.scene.now.code.now c.args.self.now.walk.heap c.args.self.now.walk.away)
     c.try_single.ensures.count c.try_single.ensures.trial
 
 pub returns-in_ok-take_values-in-Splits-clause-ok :
     goal.returns-in_ok-take_values-in-Splits-clause-ok
 returns-in_ok-take_values-in-Splits-clause-ok g c =
-    let inside : c.args.self.now.walk.away < length c.args.code.now =
+    let inside : c.args.self.now.walk.away < length c.args.scene.now.code.now =
     not_over c.is_over.result c.is_over.ensures.over c.if-is_over.false in
     let none = c.spend_splits-spent.ensures.none c.if-spent-eq0.true in
-    run_none c.args.code.now c.args.table.now c.args.phi.now c.args.self.now
-    c.args.pairs.now.items c.args.units c.requires.trial c.is_ready.ensures.going
+    run_none c.args.scene.now.code.now c.args.scene.now.table.now c.args.scene.now.phi.now c.args.self.now
+    c.args.pairs.now.items c.args.units c.requires.goes_on.trial c.is_ready.ensures.going
     c.take_values.new.self c.spend_splits-spent.result c.in-Splits.part c.if-spent-eq0.true inside c.in-Splits.is none.0
     (c.in_ok-take_values-in-Splits.ensures.trial
-    ∙ ap (after_cut InTwo c.args.code.now c.args.table.now c.args.phi.now) none.1)
+    ∙ ap (after_cut InTwo c.args.scene.now.code.now c.args.scene.now.table.now c.args.scene.now.phi.now) none.1)
 
 pub returns-else-spent-eq0-clause-ok : goal.returns-else-spent-eq0-clause-ok
 returns-else-spent-eq0-clause-ok g c =
     let some : 1 ≤ c.spend_splits-spent.result = let f = c.if-spent-eq0.false in omega arith in
     let made = c.spend_splits-spent.ensures.some some in
-    run_splits c.args.code.now c.args.table.now c.args.phi.now c.args.self.now
-    c.args.pairs.now.items c.args.units c.requires.trial c.is_ready.ensures.going
+    run_splits c.args.scene.now.code.now c.args.scene.now.table.now c.args.scene.now.phi.now c.args.self.now
+    c.args.pairs.now.items c.args.units c.requires.goes_on.trial c.is_ready.ensures.going
     c.spend_splits-spent.new.self c.spend_splits-spent.result c.in-Splits.part c.in-Splits.is some
     c.spend_splits-spent.ensures.within made.0 made.1 made.2
 
@@ -53,8 +53,8 @@ pub returns-then-spent-gt0-clause-ok : goal.returns-then-spent-gt0-clause-ok
 returns-then-spent-gt0-clause-ok g c =
     let some : 1 ≤ c.spend_triples-spent.result = let f = c.if-spent-gt0.true in omega arith in
     let made = c.spend_triples-spent.ensures.some some in
-    run_triples c.args.code.now c.args.table.now c.args.phi.now c.args.self.now
-    c.args.pairs.now.items c.args.units c.requires.trial c.is_ready.ensures.going
+    run_triples c.args.scene.now.code.now c.args.scene.now.table.now c.args.scene.now.phi.now c.args.self.now
+    c.args.pairs.now.items c.args.units c.requires.goes_on.trial c.is_ready.ensures.going
     c.spend_triples-spent.new.self c.spend_triples-spent.result c.in-Triples.first
     c.in-Triples.second c.in-Triples.is some c.spend_triples-spent.ensures.within made.1 made.2
 
@@ -67,15 +67,15 @@ returns-then-first-last_first-clause-ok g c =
     < last_first (c.args.self.now.walk.heap - c.args.self.now.walk.away) c.args.self.now.walk.most =
     subst (λ t. c.in-Triples.first < last_first (t.walk.heap - t.walk.away) t.walk.most) none.1
     (let f = c.if-first-last_first.true in omega arith) in
-    run_row c.args.code.now c.args.table.now c.args.phi.now c.args.self.now
-    c.args.pairs.now.items c.args.units c.requires.trial c.is_ready.ensures.going
+    run_row c.args.scene.now.code.now c.args.scene.now.table.now c.args.scene.now.phi.now c.args.self.now
+    c.args.pairs.now.items c.args.units c.requires.goes_on.trial c.is_ready.ensures.going
     c.next_row.new.self c.in-Triples.first c.in-Triples.second c.in-Triples.is none.0 less
     (c.next_row.ensures ∙ ap (λ t. after_row t c.in-Triples.first) none.1)
 
 pub returns-in_ok-take_values-in-Triples-clause-ok :
     goal.returns-in_ok-take_values-in-Triples-clause-ok
 returns-in_ok-take_values-in-Triples-clause-ok g c =
-    let inside : c.args.self.now.walk.away < length c.args.code.now =
+    let inside : c.args.self.now.walk.away < length c.args.scene.now.code.now =
     not_over c.is_over.result c.is_over.ensures.over c.if-is_over.false in
     let zero : c.spend_triples-spent.result ≡ 0 = let f = c.if-spent-gt0.false in omega arith in
     let none = c.spend_triples-spent.ensures.none zero in
@@ -84,8 +84,8 @@ returns-in_ok-take_values-in-Triples-clause-ok g c =
     c.args.self.now.walk.most ≤ c.in-Triples.first =
     subst (λ t. last_first (t.walk.heap - t.walk.away) t.walk.most ≤ c.in-Triples.first) none.1
     (let f = c.if-first-last_first.false in omega arith) in
-    run_last_row c.args.code.now c.args.table.now c.args.phi.now c.args.self.now
-    c.args.pairs.now.items c.args.units c.requires.trial c.is_ready.ensures.going
+    run_last_row c.args.scene.now.code.now c.args.scene.now.table.now c.args.scene.now.phi.now c.args.self.now
+    c.args.pairs.now.items c.args.units c.requires.goes_on.trial c.is_ready.ensures.going
     c.take_values-else-first-last_first.new.self c.in-Triples.first c.in-Triples.second inside c.in-Triples.is none.0 last
     (c.in_ok-take_values-in-Triples.ensures.trial
-    ∙ ap (after_cut InThree c.args.code.now c.args.table.now c.args.phi.now) none.1)
+    ∙ ap (after_cut InThree c.args.scene.now.code.now c.args.scene.now.table.now c.args.scene.now.phi.now) none.1)

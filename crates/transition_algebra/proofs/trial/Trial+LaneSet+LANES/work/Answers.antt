@@ -9,11 +9,11 @@ use Rattle.transition_algebra.proofs.trial.Trial+LaneSet+LANES.work.Goals as goa
 
 pub loop-left-smaller : goal.loop-left-smaller
 loop-left-smaller g c =
-    let code = c.args.code.now in
+    let code = c.args.scene.now.code.now in
     let r = c.in_ok-left.ensures.ok in
     let two = two_digits code c.is_code.ensures.code in
-    let bound = bound_small c.args.phi.now c.is_pretending.ensures code two.1 in
-    let was = c.loop-left.invariant.0.bound_is in
+    let bound = bound_small c.args.scene.now.phi.now c.is_pretending.ensures code two.1 in
+    let was = c.loop-left.invariant.0.trial.bound_is in
     let going = c.if-self.true in
     let next = r.heap in
     measure_falls c.loop-left.left c.in_ok-left.field-0 _
@@ -27,19 +27,19 @@ returns-in_err-left-clause-err g c =
     let sum = c.loop-left.invariant.1 in
     let few = c.loop-left.invariant.2 in
     let some = c.loop-left-test.true in
-    let going : c.loop-left.self.walk.heap ≤ bound_of c.args.code.now c.args.phi.now = let a =
-    c.if-self.true in let b = c.loop-left.invariant.0.bound_is in omega arith in
+    let going : c.loop-left.self.walk.heap ≤ bound_of c.args.scene.now.code.now c.args.scene.now.phi.now = let a =
+    c.if-self.true in let b = c.loop-left.invariant.0.trial.bound_is in omega arith in
     let behind =
-    room c.args.code.now c.args.table.now c.args.phi.now c.loop-left.self
-    c.loop-left.pairs.items c.loop-left.invariant.0 going in
+    room c.args.scene.now.code.now c.args.scene.now.table.now c.args.scene.now.phi.now c.loop-left.self
+    c.loop-left.pairs.items c.loop-left.invariant.0.trial going in
     on_err c.from_residual.result (omega arith, omega arith, omega arith)
 
 pub returns-else-self-clause-ok : goal.returns-else-self-clause-ok
 returns-else-self-clause-ok g c =
-    let over : bound_of c.args.code.now c.args.phi.now < c.loop-left.self.walk.heap = let a =
-    c.if-self.false in let b = c.loop-left.invariant.0.bound_is in omega arith in
+    let over : bound_of c.args.scene.now.code.now c.args.scene.now.phi.now < c.loop-left.self.walk.heap = let a =
+    c.if-self.false in let b = c.loop-left.invariant.0.trial.bound_is in omega arith in
     let all =
-    all_spent c.args.code.now c.args.table.now c.args.phi.now c.loop-left.self
-    c.loop-left.pairs.items c.loop-left.invariant.0 over in
+    all_spent c.args.scene.now.code.now c.args.scene.now.table.now c.args.scene.now.phi.now c.loop-left.self
+    c.loop-left.pairs.items c.loop-left.invariant.0.trial over in
     let sum = c.loop-left.invariant.1 in
     omega arith
