@@ -1,8 +1,9 @@
 //! The stage that tries the elements that tell two apart.
-ghost use Rattle.std.specs.Prelude.{◌≡◌, ◌<◌, ◌+◌, ◌*◌, ℕ, List, IfOk};
+ghost use Rattle.std.specs.Prelude.{◌≡◌, ◌<◌, ◌*◌, ℕ, List, IfOk};
 ghost use Rattle.check_machine.specs.SoFar.{HasNoFaultBelow};
 ghost use Rattle.check_machine.specs.Turns.{Runs, separating_turn};
 ghost use Rattle.check_machine.specs.Turns.Phase.{Separating as AtSeparating};
+ghost use Rattle.checker.specs.Separates.{GoesOn, HasLooked, HasTried, IsTold};
 ghost use Rattle.checker.specs.Stages.{phase_of};
 
 use crate::contexts::{contexts, least_apart};
@@ -23,14 +24,25 @@ pub struct Separating<A: SmallAllocator = Global> {
     /// For each element those that take it into the portion, in as many lanes as the largest order
     /// needs.
     contexts: Vec<LaneSet<64>, A>,
-    /// The pair that is looked at has the elements x
+    /// The smaller element of the pair that is looked at.
     x: u16,
-    /// and y,
+    /// The larger element of that pair.
     y: u16,
-    /// and this number.
+    /// How many pairs come before it.
     number: usize,
-    /// The element that is tried next.
+    /// The element that is tried next on it.
     z: u16,
+}
+
+/// What comes after the turns that were taken at a pair.
+#[derive(Clone, Copy)]
+enum Next {
+    /// The stage goes on.
+    Goes,
+    /// The next turn finds that another element than the least is given.
+    Wrong,
+    /// The next turn finds the last pair told apart by the element given.
+    Over,
 }
 
 impl<A: SmallAllocator> Model for Separating<A> {
@@ -73,87 +85,79 @@ impl<A: SmallAllocator + Copy> Separating<A> {
         })
     }
 
+    /// Tries the elements of the pair, a turn each, as far as there are units, up to the least that
+    /// tells it apart or the one given, whichever comes first. Whether these two are one.
+    fn try_elements(&mut self, left: &mut u64) -> bool
+        ensures { HasTried self.old left.old left.new self.new result }
+    {
+        is_lawful(&self.certificate);
+        let given = self.certificate.apart(self.number);
+        let least = least_apart(&self.certificate, &self.contexts, self.x, self.y);
+        let tried = (*left).min((least.min(given) - self.z) as u64);
+        *left -= tried;
+        self.z += tried as u16;
+        least == given
+    }
+
+    /// Goes to the next pair, if there is one.
+    fn next_pair(&mut self) -> bool
+        requires { IsTold self.old }
+        ensures { GoesOn self.old self.new result }
+    {
+        let pairs = self.certificate.pairs();
+        if self.number + 1 == pairs {
+            return false;
+        }
+        self.z = 0;
+        self.number += 1;
+        self.y += 1;
+        if self.y == self.certificate.order() {
+            self.x += 1;
+            self.y = self.x + 1;
+        }
+        true
+    }
+
+    /// Takes the turns of a pair, as far as there are units, and goes to the next pair. A turn that
+    /// ends the stage isn't taken.
+    fn look(&mut self, left: &mut u64) -> Next
+        requires { 0 < left.old }
+        ensures { HasLooked self.old left.old left.new self.new result }
+    {
+        let is_right = self.try_elements(left);
+        if *left == 0 {
+            return Next::Goes;
+        }
+        if !is_right {
+            return Next::Wrong;
+        }
+        if !self.next_pair() {
+            return Next::Over;
+        }
+        *left -= 1;
+        Next::Goes
+    }
+
     /// Takes turns in place, while the stage surely goes on and there are units.
     pub fn go_on(&mut self, left: &mut u64)
         ensures { (bytes : List ℕ) (limit : ℕ)
             → Runs bytes limit (AtSeparating self.old) left.old left.new (AtSeparating self.new) }
     {
-        let order = self.certificate.order();
-        let last = self.certificate.pairs() - 1;
         'pairs: while *left > 0 {
-            let given = self.certificate.apart(self.number);
-            let least = least_apart(&self.certificate, &self.contexts, self.x, self.y);
-            let before = (*left).min((least.min(given) - self.z) as u64);
-            *left -= before;
-            self.z += before as u16;
-            if *left == 0 || least != given {
+            if !matches!(self.look(left), Next::Goes) {
                 return;
-            }
-            if self.number == last {
-                return;
-            }
-            *left -= 1;
-            self.z = 0;
-            self.number += 1;
-            self.y += 1;
-            if self.y == order {
-                self.x += 1;
-                self.y = self.x + 1;
             }
         }
     }
 
     /// One turn, which may end the stage.
-    pub fn turn(self, alloc: A) -> Stage<A>
+    pub fn turn(mut self, alloc: A) -> Stage<A>
         ensures { (limit : ℕ) → phase_of result ≡ separating_turn limit self }
     {
-        let Separating {
-            certificate,
-            contexts,
-            x,
-            y,
-            number,
-            z,
-        } = self;
-        let order = certificate.order();
-        let given = certificate.apart(number);
-        let least = least_apart(&certificate, &contexts, x, y);
-        if z < least.min(given) {
-            return Stage::Separating(Separating {
-                certificate,
-                contexts,
-                x,
-                y,
-                number,
-                z: z + 1,
-            });
+        match self.look(&mut 1) {
+            Next::Goes => Stage::Separating(self),
+            Next::Wrong => Stage::Ended(Err(Refusal::Apart)),
+            Next::Over => over_pairs(alloc, self.certificate),
         }
-        if least != given {
-            drop((certificate, contexts));
-            return Stage::Ended(Err(Refusal::Apart));
-        }
-        if number + 1 == certificate.pairs() {
-            drop(contexts);
-            return over_pairs(alloc, certificate);
-        }
-        if y + 1 < order {
-            return Stage::Separating(Separating {
-                certificate,
-                contexts,
-                x,
-                y: y + 1,
-                number: number + 1,
-                z: 0,
-            });
-        }
-        let x = x + 1;
-        Stage::Separating(Separating {
-            certificate,
-            contexts,
-            x,
-            y: x + 1,
-            number: number + 1,
-            z: 0,
-        })
     }
 }

@@ -1,4 +1,4 @@
-use Rattle.std.proofs.Common.{arith, rules, ◌≡◌, true, false, inl, inr, sym, ◌∙◌, ap, subst}
+use Rattle.std.proofs.Common.{arith, rules, ◌≡◌, true, inl, inr, sym, ◌∙◌, ap, subst}
 use Rattle.std.specs.FinSet as set
 use native.Mathlib.Decide.{dec_lt}
 use Rattle.misere_theory.specs.Certificates.{claim_of, times_of}
