@@ -29,6 +29,6 @@ pub fn position_of<A: SmallAllocator + Copy>(
         reached = key.element;
     }
     // they stand rising
-    position.heaps();
+    let _ = position.heaps();
     Ok(position)
 }

@@ -16,7 +16,7 @@ pub(crate) fn code_and_kind(code: &Code, heaps: u64) -> CodeAndKind
     ensures key { IsCodeAndKind result code.now heaps }
     ensures code { IsCode code.now }
 {
-    let _last = code.last();
+    let _ = code.last();
     let mut digits = [heaps; DIGITS + 1];
     for j in 0..DIGITS {
         digits[j] = u64::from(code.digit(j as u64));

@@ -42,7 +42,7 @@ pub(crate) fn go_on<A: SmallAllocator + Copy>(
 {
     checks_end();
     let target = slot.spent.saturating_add(units);
-    let _limit = core.limit();
+    let _ = core.limit();
     let done = core.spent();
     if !matches!(core.progress(), Progress::Going) {
         return reached(slot, target, done);

@@ -54,7 +54,7 @@ pub fn described<A: Allocator>(
     ensures { IfOk result (λ v. IsDescription output shown.now v.items) }
 {
     outcomes_are_said();
-    shown.claim();
+    let _ = shown.claim();
     let text = text_of(alloc, shown, output, SIDE)?;
     Ok(text.into_bytes())
 }

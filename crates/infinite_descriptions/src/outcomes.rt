@@ -59,7 +59,7 @@ fn letter<A: Allocator>(shown: &Infinite<A>, heaps: &[u64]) -> &'static str
     ensures { result.now ≡ letter (says_p (claim_in shown.now.claim) heaps.now) }
 {
     outcomes_are_said();
-    shown.claim();
+    let _ = shown.claim();
     match outcome_at(shown, heaps) {
         Outcome::P => "P",
         Outcome::N => "N",
@@ -77,7 +77,7 @@ fn member_letter<A: Allocator>(
         (member shown.now.base shown.now.up shown.now.down ups downs))) }
 {
     bases_are_spoken_of();
-    shown.claim();
+    let _ = shown.claim();
     let heaps = member(alloc, shown, ups, downs)?;
     Ok(letter(shown, &heaps))
 }

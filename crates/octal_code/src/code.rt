@@ -245,5 +245,5 @@ pub fn is_code(code: &Code)
     ensures some { 2 ≤ length code.now }
     ensures short { length code.now ≤ 17 }
 {
-    code.last();
+    let _ = code.last();
 }

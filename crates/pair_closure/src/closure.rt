@@ -143,7 +143,7 @@ impl<const LANES: usize, A: SmallAllocator + Copy> Closure<LANES, A> {
             word.push(member.heap as u64)?;
             at = member.parent;
         }
-        word.heaps();
+        let _ = word.heaps();
         Ok(word)
     }
 

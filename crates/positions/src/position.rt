@@ -175,7 +175,7 @@ fn sort<A: SmallAllocator + Copy>(heaps: &mut SmallVec<u64, INLINE, A>)
 fn has_room<A: SmallAllocator + Copy>(heaps: &SmallVec<u64, INLINE, A>)
     ensures { INLINE ≤ heaps.now.capacity }
 {
-    heaps.capacity();
+    let _ = heaps.capacity();
 }
 
 /// Makes these the heaps `from` but the one at the place `at`. There is room for these.
