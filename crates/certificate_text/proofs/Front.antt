@@ -15,7 +15,7 @@ use Rattle.std.proofs.lemmas.Bool.Decides.{nat_tests}
 
 -- ---- the lines up to the period
 
-abbrev field_text : List ℕ → ℕ → List ℕ → List ℕ
+abbrev pub field_text : List ℕ → ℕ → List ℕ → List ℕ
 field_text name x rest = name ++ (32 ∷ (decimal x ++ 10 ∷ rest))
 
 abbrev pub numbers_text : List ℕ → ℕ → ℕ → ℕ → List ℕ → List ℕ
@@ -44,7 +44,7 @@ pub record FrontFits (code : List ℕ) (order start period : ℕ) : Type 0 where
   pub period_from : least_period start ≤ period
   pub period_below : period < MOST_ENTRIES + 2 - start
 
-numbers_take : (bytes : List ℕ) (f : List ℕ × ℕ × ℕ × ℕ) (rest : List ℕ)
+pub numbers_take : (bytes : List ℕ) (f : List ℕ × ℕ × ℕ × ℕ) (rest : List ℕ)
     → numbers_at bytes ≡ Some (f, rest) → (bytes ≡ numbers_text f.0 f.1 f.2 f.3 rest)
     × FrontFits f.0 f.1 f.2 f.3
 unfolding numbers_at
@@ -76,7 +76,7 @@ numbers_take bytes f rest e =
       },
     )
 
-numbers_again : (code : List ℕ) (order start period : ℕ) (rest : List ℕ)
+pub numbers_again : (code : List ℕ) (order start period : ℕ) (rest : List ℕ)
     → FrontFits code order start period → numbers_at (numbers_text code order start period rest)
     ≡ Some ((code, order, start, period), rest)
 unfolding numbers_at

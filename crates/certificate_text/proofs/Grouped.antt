@@ -14,14 +14,14 @@ abbrev pub text_then : List Line → List ℕ → List ℕ
 text_then [] rest = rest
 text_then (l ∷ ls) rest = line_text l.name l.words (text_then ls rest)
 
-text_then_is : (ls : List Line) (rest : List ℕ) → text ls ++ rest ≡ text_then ls rest
+pub text_then_is : (ls : List Line) (rest : List ℕ) → text ls ++ rest ≡ text_then ls rest
 text_then_is [] rest = refl
 text_then_is (l ∷ ls) rest =
     append_assoc l.name (spaced l.words ++ 10 ∷ text ls) rest ∙ ap (λ (t : List ℕ). l.name ++ t)
     (append_assoc (spaced l.words) (10 ∷ text ls) rest
     ∙ ap (λ (t : List ℕ). spaced l.words ++ (10 ∷ t)) (text_then_is ls rest))
 
-rows_then : (rows : List (List ℕ)) (ls : List Line) (rest : List ℕ)
+pub rows_then : (rows : List (List ℕ)) (ls : List Line) (rest : List ℕ)
     → text_then (map row_line rows ++ ls) rest ≡ rows_text rows (text_then ls rest)
 rows_then [] ls rest = refl
 rows_then (row ∷ rows) ls rest =

@@ -1,86 +1,27 @@
 -- Tables are read as they are spelled.
 -- Line by line: what is read is their text, and their text is read.
-use Rattle.std.proofs.Common.{◌≡◌, ℕ, zero, suc, ◌+◌, ◌-◌, ◌*◌, ◌^◌, ◌<◌, ◌≤◌, List, [], ◌∷◌, ◌++◌, map, length, take, drop, Some, refl, sym, ap, ◌∙◌, arith, codes, All, add-one, append_assoc, length-drop}
+use Rattle.std.proofs.Common.{◌≡◌, ℕ, zero, suc, ◌+◌, ◌-◌, ◌*◌, ◌^◌, ◌<◌, ◌≤◌, List, [], ◌∷◌, ◌++◌, map, length, take, drop, Some, refl, sym, ap, ◌∙◌, arith, codes, All, add-one, length-drop}
 use Rattle.std.proofs.Math.Nat.{suc-mul}
 use Rattle.std.specs.Fmt.{decimal}
 use Rattle.std.specs.List.{AllByRecursion, concat}
 use Rattle.std.proofs.lemmas.List.{append-nil, length-take-le, take-append-drop}
 use Rattle.std.proofs.lemmas.Option.{some_pair_parts}
 use Rattle.std.proofs.lemmas.List.Elements.{All-from_recursion, recursion_from_All, All-take, All-drop, All-append}
-use Rattle.misere_theory.specs.declared.TheConstants.{LARGEST_ORDER, MOST_ENTRIES}
 use Rattle.octal_code.specs.Text.{code_text}
-use Rattle.certificate_text.specs.Spelling.{Line, spaced, text, row_line}
-use Rattle.certificate_text.specs.Reading.{least_period, numbers_at, rows_of}
+use Rattle.certificate_text.specs.Spelling.{text}
+use Rattle.certificate_text.specs.Reading.{rows_of}
 use Rattle.certificate_text.proofs.Numbers.{bind_some, fixed_again, fixed_then, fixed_takes, behind}
-use Rattle.certificate_text.proofs.Codes.{code_line_takes, code_line_again}
 use Rattle.certificate_text.proofs.Words.{numbers_reader, line_takes, line_again}
-use Rattle.certificate_text.proofs.Fields.{RisesFrom, field_takes, field_again, portion_takes, portion_again}
+use Rattle.certificate_text.proofs.Fields.{RisesFrom, portion_takes, portion_again}
 use Rattle.certificate_text.proofs.Counts.{rises_below, rises_increasing, increasing_rises}
-use Rattle.certificate_text.proofs.Front.{FrontFits, numbers_text, period_by, least_of}
+use Rattle.certificate_text.proofs.Front.{FrontFits, numbers_text, numbers_take, numbers_again, period_by, least_of}
 use Rattle.certificate_text.proofs.Rows.{rows_text, RowFits, rows_take, rows_again}
+use Rattle.certificate_text.proofs.Lists.{line_text}
+use Rattle.certificate_text.proofs.Grouped.{text_then_is, rows_then}
 use Rattle.certificate.proofs.Rows.{rows_count}
 use Rattle.own_tables.specs.Tables.{Own, IsOwn}
 use Rattle.own_tables.specs.Texts.{table_lines, SpellsTable}
 use Rattle.own_tables.specs.Reading.{own_at, own_lists_at, own_of}
-
-abbrev field_text : List ℕ → ℕ → List ℕ → List ℕ
-field_text name x rest = name ++ (32 ∷ (decimal x ++ 10 ∷ rest))
-
-abbrev line_text : List ℕ → List (List ℕ) → List ℕ → List ℕ
-line_text name words rest = name ++ (spaced words ++ 10 ∷ rest)
-
--- the front, as certificate_text reads it
-
-numbers_take : (bytes : List ℕ) (f : List ℕ × ℕ × ℕ × ℕ) (rest : List ℕ)
-    → numbers_at bytes ≡ Some (f, rest) → (bytes ≡ numbers_text f.0 f.1 f.2 f.3 rest)
-    × FrontFits f.0 f.1 f.2 f.3
-unfolding numbers_at
-numbers_take bytes f rest e =
-    let named = fixed_then _ _ e in
-    let code = bind_some named.2 in
-    let order = bind_some code.2 in
-    let start = bind_some order.2 in
-    let period = bind_some start.2 in
-    let ct = code_line_takes _ _ _ code.1 in
-    let ot = field_takes _ _ _ _ _ _ (omega arith) (omega arith) order.1 in
-    let st = field_takes _ _ _ _ _ _ (omega arith) (omega arith) start.1 in
-    let below : start.0.0 < MOST_ENTRIES + 2 = st.2 in
-    let pt = field_takes _ _ _ _ _ _ (omega arith) (omega arith) period.1 in
-    let p = some_pair_parts _ _ _ _ period.2 in
-    rw (← p.0) (
-      behind (codes "code ") named.1 (ct.0 ∙ ap (λ (t : List ℕ). code_text code.0.0 ++ (10 ∷ t))
-          (ot.0 ∙ ap (field_text (codes "order") order.0.0)
-          (st.0 ∙ ap (field_text (codes "start") start.0.0)
-          (pt.0 ∙ ap (field_text (codes "period") period.0.0) p.1)))),
-      record {
-        code_fits = ct.1;
-        order_from = ot.1;
-        order_below = ot.2;
-        start_from = st.1;
-        start_below = st.2;
-        period_from = pt.1;
-        period_below = pt.2;
-      },
-    )
-
-numbers_again : (code : List ℕ) (order start period : ℕ) (rest : List ℕ)
-    → FrontFits code order start period → numbers_at (numbers_text code order start period rest)
-    ≡ Some ((code, order, start, period), rest)
-unfolding numbers_at
-numbers_again code order start period rest fits =
-    let period_ : List ℕ = field_text (codes "period") period rest in
-    let start_ : List ℕ = field_text (codes "start") start period_ in
-    let order_ : List ℕ = field_text (codes "order") order start_ in
-    rw (
-      fixed_again (codes "code ") (code_text code ++ (10 ∷ order_)),
-      code_line_again code order_ fits.code_fits,
-      field_again (codes "order") 2 (LARGEST_ORDER + 1) order start_ (omega arith) fits.order_from
-          fits.order_below,
-      field_again (codes "start") 1 (MOST_ENTRIES + 2) start period_ (omega arith) fits.start_from
-          fits.start_below,
-      field_again (codes "period") (least_period start) (MOST_ENTRIES + 2 - start) period rest (omega arith)
-          fits.period_from fits.period_below,
-    ) refl
 
 -- the whole text, and then the rest
 abbrev lists_text : Own → List ℕ → List ℕ
@@ -173,24 +114,6 @@ own_again o rest fits table =
     ) refl
 
 -- ---- the lines are this text
-
-abbrev text_then : List Line → List ℕ → List ℕ
-text_then [] rest = rest
-text_then (l ∷ ls) rest = line_text l.name l.words (text_then ls rest)
-
-text_then_is : (ls : List Line) (rest : List ℕ) → text ls ++ rest ≡ text_then ls rest
-text_then_is [] rest = refl
-text_then_is (l ∷ ls) rest =
-    append_assoc l.name (spaced l.words ++ 10 ∷ text ls) rest ∙ ap (λ (t : List ℕ). l.name ++ t)
-    (append_assoc (spaced l.words) (10 ∷ text ls) rest
-    ∙ ap (λ (t : List ℕ). spaced l.words ++ (10 ∷ t)) (text_then_is ls rest))
-
-rows_then : (rows : List (List ℕ)) (ls : List Line) (rest : List ℕ)
-    → text_then (map row_line rows ++ ls) rest ≡ rows_text rows (text_then ls rest)
-rows_then [] ls rest = refl
-rows_then (row ∷ rows) ls rest =
-    ap (λ (t : List ℕ). codes "row" ++ (spaced (map decimal row) ++ 10 ∷ t))
-    (rows_then rows ls rest)
 
 text_is : (o : Own) (rest : List ℕ) → text (table_lines o) ++ rest ≡ own_text o rest
 text_is o rest =

@@ -4,9 +4,11 @@ use Rattle.std.specs.Fmt.{decimal}
 use Rattle.std.proofs.lemmas.Fmt.{decimal_digit}
 use Rattle.std.proofs.lemmas.List.{append-nil}
 use Rattle.octal_code.specs.Text.{code_text}
-use Rattle.certificate_text.specs.Spelling.{Line, spaced, text, key_word, row_line}
+use Rattle.certificate_text.specs.Spelling.{Line, text, key_word, row_line}
 use Rattle.certificate_text.proofs.Rows.{rows_text}
 use Rattle.certificate_text.proofs.Lists.{line_text}
+use Rattle.certificate_text.proofs.Front.{field_text}
+use Rattle.certificate_text.proofs.Grouped.{text_then, text_then_is, rows_then}
 use Rattle.counted_claims.specs.Tracked.{TrackLine}
 use Rattle.tracked_text.specs.Said.{Said, numbered, is_empty}
 use Rattle.tracked_text.specs.Spelling.{element_word, places_word, track_line, region_line, lines}
@@ -14,30 +16,12 @@ use Rattle.tracked_text.proofs.Entries.{entries_text}
 use Rattle.tracked_text.proofs.Words.{region_word, region_grouped}
 use Rattle.tracked_text.proofs.Tracks.{tracks_text, track_text, track_is_line}
 
-abbrev text_then : List Line → List ℕ → List ℕ
-text_then [] rest = rest
-text_then (l ∷ ls) rest = line_text l.name l.words (text_then ls rest)
-
-text_then_is : (ls : List Line) (rest : List ℕ) → text ls ++ rest ≡ text_then ls rest
-text_then_is [] rest = refl
-text_then_is (l ∷ ls) rest =
-    append_assoc l.name (spaced l.words ++ 10 ∷ text ls) rest ∙ ap (λ (t : List ℕ). l.name ++ t)
-    (append_assoc (spaced l.words) (10 ∷ text ls) rest
-    ∙ ap (λ (t : List ℕ). spaced l.words ++ (10 ∷ t)) (text_then_is ls rest))
-
 tracks_then : (ts : List TrackLine) (ls : List Line) (rest : List ℕ)
     → text_then (map track_line ts ++ ls) rest ≡ tracks_text ts (text_then ls rest)
 tracks_then [] ls rest = refl
 tracks_then (t ∷ ts) ls rest =
     track_is_line t (text_then (map track_line ts ++ ls) rest)
     ∙ ap (λ (u : List ℕ). codes "track" ++ track_text t u) (tracks_then ts ls rest)
-
-rows_then : (rows : List (List ℕ)) (ls : List Line) (rest : List ℕ)
-    → text_then (map row_line rows ++ ls) rest ≡ rows_text rows (text_then ls rest)
-rows_then [] ls rest = refl
-rows_then (row ∷ rows) ls rest =
-    ap (λ (t : List ℕ). codes "row" ++ (spaced (map decimal row) ++ 10 ∷ t))
-    (rows_then rows ls rest)
 
 region_then : (r : ℕ × List Bool) (rest : List ℕ)
     → line_text (region_line r).name (region_line r).words rest
@@ -57,9 +41,6 @@ regions_then (r ∷ rs) ls rest =
     ∙ ap (λ (t : List ℕ). codes "region " ++ (region_word r ++ t)) (regions_then rs ls rest)
 
 -- ---- the whole text
-
-abbrev pub field_text : List ℕ → ℕ → List ℕ → List ℕ
-field_text name x rest = name ++ (32 ∷ (decimal x ++ 10 ∷ rest))
 
 abbrev pub numbers_text : List ℕ → ℕ → ℕ → List ℕ → List ℕ
 numbers_text code heaps order rest =

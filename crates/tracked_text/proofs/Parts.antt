@@ -19,6 +19,7 @@ use Rattle.certificate_text.proofs.Fields.{field_takes, field_again}
 use Rattle.certificate_text.proofs.Codes.{code_line_takes, code_line_again}
 use Rattle.certificate_text.proofs.Rows.{RowFits}
 use Rattle.certificate_text.proofs.Lists.{line_text}
+use Rattle.certificate_text.proofs.Front.{field_text}
 use Rattle.counted_claims.specs.Tracked.{TrackLine, all_place_count}
 use Rattle.tracked_text.specs.declared.TheConstants.{MOST_HEAPS, MOST_TRACKS, MOST_PLACES}
 use Rattle.tracked_text.specs.Said.{Said, InRanges, IsTrack, AreHeaps, has_element, phi_of, folds_of}
@@ -27,7 +28,7 @@ use Rattle.tracked_text.specs.Reading.{numbers_at, elements_at, few_tracks_at, w
 use Rattle.tracked_text.proofs.Entries.{entries_take, entries_again, NoDigit}
 use Rattle.tracked_text.proofs.Words.{elements_reader, region_entries, regions_fit}
 use Rattle.tracked_text.proofs.Tracks.{tracks_text, tracks_take, tracks_again, position_takes, position_again}
-use Rattle.tracked_text.proofs.Grouped.{field_text, numbers_text, ray_text, regions_text}
+use Rattle.tracked_text.proofs.Grouped.{numbers_text, ray_text, regions_text}
 
 -- ---- the code, the number of heaps and the order
 
