@@ -59,14 +59,15 @@ all_units code phi a s octal pretending e =
 
 -- nothing tried yet
 pub new_trial : (code : List ℕ) (table : Grid) (phi : Pretending) (b m : ℕ) (w : Walk)
-    (seen : set.FinSet nat_cmp) → b ≡ bound_of code phi → m ≡ largest_part phi → w ≡ begun 1 m
+    (seen : set.FinSet nat_cmp) → b ≡ bound_of code phi → 1 ≤ b → m ≡ largest_part phi → w ≡ begun 1 m
     → seen ≡ set.empty
     → IsTrial code table phi (record { bound = b; walk = w; seen = seen; spent = 0 }) []
 unfolding with_left
-new_trial code table phi b m w seen bound most at_first none =
+new_trial code table phi b m w seen bound some most at_first none =
     subst (λ v. IsTrial code table phi (record { bound = b; walk = v; seen = seen; spent = 0 }) [])
     (sym at_first) (record {
       bound_is = bound;
+      some = some;
       most_is = most;
       away_in = omega arith;
       untried_in = tt;

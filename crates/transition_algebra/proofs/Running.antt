@@ -51,6 +51,7 @@ module _ (code : List ℕ) (table : Grid) (phi : Pretending) where
     at_most = at_most;
     trial = record {
       bound_is = bound ∙ is.bound_is;
+      some = let b = is.some in omega arith;
       most_is = most ∙ is.most_is;
       away_in = away;
       untried_in = stage;

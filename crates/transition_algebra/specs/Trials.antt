@@ -157,6 +157,7 @@ trying_of code table phi t pairs = record {
 pub record IsTrial (code : List ℕ) (table : Grid) (phi : Pretending) (t : Trial)
     (pairs : List Pair) : Type 0 where
   pub bound_is : t.bound ≡ bound_of code phi
+  pub some : 1 ≤ t.bound
   pub most_is : t.walk.most ≡ largest_part phi
   pub away_in : t.walk.away ≤ length code
   pub untried_in : IsUntried code t.walk.heap (largest_part phi) t.walk.away t.walk.untried

@@ -114,7 +114,8 @@ fn kept_values<const LANES: usize, A: Allocator>(
     requires shown { AreShown scene.now.table.now scene.now.phi.now pairs.now whole }
     requires kept { AreCutValues cut scene.now.table.now scene.now.phi.now kept.old.items }
     ensures kept { AreCutValues cut scene.now.table.now scene.now.phi.now kept.new.items }
-    ensures values { IfOk result (λ values. values ≡ cut_values cut scene.now.table.now scene.now.phi.now whole) }
+    ensures values { IfOk result
+        (λ values. values ≡ cut_values cut scene.now.table.now scene.now.phi.now whole) }
 {
     while kept.len() as u64 <= whole {
         let next = kept.len() as u64;
@@ -150,7 +151,8 @@ impl<const LANES: usize, A: Allocator> CutValues<LaneSet<LANES>, A> {
         requires shown { AreShown scene.now.table.now scene.now.phi.now pairs.now whole }
         requires kept { AreKept scene.now.table.now scene.now.phi.now self.old }
         ensures kept { AreKept scene.now.table.now scene.now.phi.now self.new }
-        ensures values { IfOk result (λ values. values ≡ cut_values cut scene.now.table.now scene.now.phi.now whole) }
+        ensures values { IfOk result
+            (λ values. values ≡ cut_values cut scene.now.table.now scene.now.phi.now whole) }
     {
         match cut {
             Cut::InTwo => kept_values(cut, scene, pairs, whole, &mut self.splits),

@@ -116,9 +116,10 @@ impl<const LANES: usize, A: Allocator> HeapJob<LANES, A> {
             table: &self.table,
             phi: &self.phi,
         };
+        let last = self.trial.bound;
         let made = self
             .trial
-            .work(&scene, &mut self.pairs, &mut self.cut_values, units);
+            .advance(&scene, &mut self.pairs, &mut self.cut_values, last, units);
         self.refused = made.is_err();
         made?;
         Ok(self.trial.is_over())
@@ -158,9 +159,10 @@ impl<const LANES: usize, A: Allocator> HeapJob<LANES, A> {
             table: &self.table,
             phi: &self.phi,
         };
+        let last = self.trial.bound - 1;
         let tried = self
             .trial
-            .go_on(&scene, &mut self.pairs, &mut self.cut_values, most);
+            .advance(&scene, &mut self.pairs, &mut self.cut_values, last, most);
         self.refused = tried.is_err();
     }
 

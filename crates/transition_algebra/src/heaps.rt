@@ -22,6 +22,7 @@ use std::alloc::Allocator;
 /// B: the heaps 1 to B show the pair of every heap that has an element.
 pub(crate) fn bound_of<A: Allocator>(code: &Code, phi: &Phi<A>) -> u64
     ensures value { result ≡ bound_of code.now phi.now }
+    ensures some { 1 ≤ result }
     ensures small { result < 16384 }
 {
     if phi.heaps() == 0 {
@@ -88,6 +89,7 @@ pub fn heap_pairs<const LANES: usize, A: Allocator + Copy>(
     let mut trial = Trial::new(code, phi);
     let mut pairs = Vec::new(alloc);
     let mut cut_values = CutValues::new(alloc);
-    trial.work(&scene, &mut pairs, &mut cut_values, u64::MAX)?;
+    let last = trial.bound;
+    trial.advance(&scene, &mut pairs, &mut cut_values, last, u64::MAX)?;
     Ok(pairs)
 }

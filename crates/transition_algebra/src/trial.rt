@@ -55,7 +55,8 @@ impl<const LANES: usize> Trial<LaneSet<LANES>> {
         requires small { self.old.spent + self.old.walk.heap < 2 ^ 48 }
         ensures count { result
             ≡ length (single_left scene.now.code.now self.old.walk.heap self.old.walk.away) }
-        ensures trial { self.new ≡ after_single scene.now.code.now scene.now.table.now scene.now.phi.now self.old }
+        ensures trial { self.new
+            ≡ after_single scene.now.code.now scene.now.table.now scene.now.phi.now self.old }
     {
         match self.walk.take_single(scene.code) {
             Some(left) => {
@@ -118,8 +119,8 @@ impl<const LANES: usize> Trial<LaneSet<LANES>> {
         self.walk.pass_row(code, first);
     }
 
-    /// Takes over the values of the splits or of the triples, once their units are spent, and turns to
-    /// what comes behind them.
+    /// Takes over the values of the splits or of the triples, once their units are spent, and turns
+    /// to what comes behind them.
     fn take_values<A: Allocator>(
         &mut self,
         cut: Cut,
@@ -127,11 +128,13 @@ impl<const LANES: usize> Trial<LaneSet<LANES>> {
         pairs: &[Pair<LaneSet<LANES>>],
         cut_values: &mut CutValues<LaneSet<LANES>, A>,
     ) -> Result<(), Memory>
-        requires shown { AreShown scene.now.table.now scene.now.phi.now pairs.now self.old.walk.heap }
+        requires shown { AreShown scene.now.table.now scene.now.phi.now pairs.now
+            self.old.walk.heap }
         requires kept { AreKept scene.now.table.now scene.now.phi.now cut_values.old }
         requires digit { self.old.walk.away < length scene.now.code.now }
         ensures kept { AreKept scene.now.table.now scene.now.phi.now cut_values.new }
-        ensures trial { OnOk result (self.new ≡ after_cut cut scene.now.code.now scene.now.table.now scene.now.phi.now self.old) }
+        ensures trial { OnOk result (self.new
+            ≡ after_cut cut scene.now.code.now scene.now.table.now scene.now.phi.now self.old) }
         ensures err { OnErr result (self.new ≡ self.old) }
     {
         if scene.code.allows(self.walk.away, cut.leaving()) {
@@ -179,9 +182,11 @@ impl<const LANES: usize> Trial<LaneSet<LANES>> {
         scene: &Scene<'_, LANES, A>,
         pairs: &Vec<Pair<LaneSet<LANES>>, A>,
     )
-        requires trial { IsTrial scene.now.code.now scene.now.table.now scene.now.phi.now self.now pairs.now.items }
+        requires trial { IsTrial scene.now.code.now scene.now.table.now scene.now.phi.now self.now
+            pairs.now.items }
         requires going { self.now.walk.heap ≤ self.now.bound }
-        ensures { IsReady scene.now.code.now scene.now.table.now scene.now.phi.now self.now pairs.now.items }
+        ensures { IsReady scene.now.code.now scene.now.table.now scene.now.phi.now self.now
+            pairs.now.items }
     {
         is_code(scene.code);
         is_monoid(scene.table);
@@ -201,8 +206,8 @@ impl<const LANES: usize> Trial<LaneSet<LANES>> {
         requires going { self.old.walk.heap ≤ self.old.bound }
         requires some { 1 ≤ units }
         ensures ok { IfOk result
-            (λ spent. IsRun scene.now.code.now scene.now.table.now scene.now.phi.now self.old self.new pairs.new.items units
-            spent) }
+            (λ spent. IsRun scene.now.code.now scene.now.table.now scene.now.phi.now self.old
+            self.new pairs.new.items units spent) }
         ensures kept { AreKept scene.now.table.now scene.now.phi.now cut_values.new }
         ensures err { OnErr result (self.new ≡ self.old) }
         ensures err_pairs { OnErr result (pairs.new.items ≡ pairs.old.items) }
@@ -236,55 +241,36 @@ impl<const LANES: usize> Trial<LaneSet<LANES>> {
         }
     }
 
-    /// The next turns, `units` of them or, if fewer are left, all.
-    pub(crate) fn work<A: Allocator>(
+    /// The next turns, at most `units`, while a heap up to `last` is in hand.
+    pub(crate) fn advance<A: Allocator>(
         &mut self,
         scene: &Scene<'_, LANES, A>,
         pairs: &mut Vec<Pair<LaneSet<LANES>>, A>,
         cut_values: &mut CutValues<LaneSet<LANES>, A>,
+        last: u64,
         units: u64,
     ) -> Result<(), Memory>
-        requires goes_on { GoesOn scene.now self.old pairs.old.items cut_values.old }
-        ensures goes_on { GoesOn scene.now self.new pairs.new.items cut_values.new }
-        ensures ok { OnOk result
-            (self.new.spent ≡ min (self.old.spent + units) (heap_cost scene.now.code.now scene.now.phi.now)) }
-        ensures err { OnErr result ((self.old.spent ≤ self.new.spent)
-            × (self.new.spent < self.old.spent + units)
-            × (self.new.spent < heap_cost scene.now.code.now scene.now.phi.now)) }
-    {
-        is_pretending(scene.phi);
-        is_code(scene.code);
-        let mut left = units;
-        while left > 0 && self.walk.heap <= self.bound {
-            left -= self.run(scene, pairs, cut_values, left)?;
-        }
-        Ok(())
-    }
-
-    /// The next turns, at most `units`, while a heap smaller than the last is in hand.
-    pub(crate) fn go_on<A: Allocator>(
-        &mut self,
-        scene: &Scene<'_, LANES, A>,
-        pairs: &mut Vec<Pair<LaneSet<LANES>>, A>,
-        cut_values: &mut CutValues<LaneSet<LANES>, A>,
-        units: u64,
-    ) -> Result<(), Memory>
+        requires last { last ≤ self.old.bound }
         requires goes_on { GoesOn scene.now self.old pairs.old.items cut_values.old }
         ensures goes_on { GoesOn scene.now self.new pairs.new.items cut_values.new }
         ensures spent { (self.old.spent ≤ self.new.spent)
             × (self.new.spent ≤ self.old.spent + units) }
-        ensures going { self.old.spent < heap_cost scene.now.code.now scene.now.phi.now
+        ensures going { last < self.old.bound
+            → self.old.spent < heap_cost scene.now.code.now scene.now.phi.now
             → self.new.spent < heap_cost scene.now.code.now scene.now.phi.now }
-        ensures last { bound_of scene.now.code.now scene.now.phi.now ≤ self.old.walk.heap → self.new ≡ self.old }
+        ensures still { last < self.old.walk.heap → self.new ≡ self.old }
         ensures taken { OnOk result ((self.new.spent ≡ self.old.spent + units)
-            ⊎ (bound_of scene.now.code.now scene.now.phi.now ≤ self.new.walk.heap)) }
+            ⊎ (last < self.new.walk.heap)) }
+        ensures all { OnOk result (last ≡ self.old.bound → self.new.spent
+            ≡ min (self.old.spent + units) (heap_cost scene.now.code.now scene.now.phi.now)) }
         ensures err { OnErr result ((self.new.spent < self.old.spent + units)
-            × (self.new.walk.heap < bound_of scene.now.code.now scene.now.phi.now)) }
+            × (self.new.spent < heap_cost scene.now.code.now scene.now.phi.now)
+            × (self.new.walk.heap ≤ last)) }
     {
         is_pretending(scene.phi);
         is_code(scene.code);
         let mut left = units;
-        while left > 0 && self.walk.heap < self.bound {
+        while left > 0 && self.walk.heap <= last {
             left -= self.run(scene, pairs, cut_values, left)?;
         }
         Ok(())
