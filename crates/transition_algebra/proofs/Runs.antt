@@ -1,7 +1,7 @@
 -- The runs of options: a single one, splits, triples with one first part, and what is turned to once
 -- all of them are tried.
 -- The options tried are the first of those to come, and the values seen are theirs.
-use Rattle.std.proofs.Common.{◌≡◌, ℕ, ◌+◌, ◌-◌, ◌*◌, ◌<◌, ◌≤◌, inl, inr, ◌⊎◌, Bool, true, false, List, [], ◌++◌, length, refl, sym, ◌∙◌, ap, ap₂, subst, arith, append_assoc}
+use Rattle.std.proofs.Common.{◌≡◌, ℕ, ◌+◌, ◌-◌, ◌*◌, ◌<◌, ◌≤◌, inl, inr, ◌⊎◌, Bool, true, false, List, [], ◌++◌, length, min, refl, sym, ◌∙◌, ap, ap₂, subst, arith, append_assoc}
 use Rattle.std.specs.Prelude.{if◌then◌else◌}
 use Rattle.std.specs.FinSet as set
 use Rattle.std.specs.Ordering.{nat_cmp}
@@ -13,7 +13,7 @@ use Rattle.octal_code.specs.Bits.{allows}
 use Rattle.octal_code.specs.declared.leaving.Leaving.TheVariants.{TwoHeaps, ThreeHeaps}
 use Rattle.heap_options.specs.Options.{splits, row, last_first, last_second, three_left}
 use Rattle.heap_options.specs.Walks as walks
-use Rattle.heap_options.specs.Walks.{single_left, options_from, last_part, splits_from, triples_from, triples_to_try, left_at, stages, stages_left}
+use Rattle.heap_options.specs.Walks.{single_left, options_from, last_part, splits_from, triples_from, splits_to_try, triples_to_try, left_at, stages, stages_left}
 use Rattle.heap_options.proofs.WalkLaws.{single_then_splits, splits_off, splits_over, splits_first, three_off, triples_from_one, triples_first, next_row, no_row_left}
 use Rattle.heap_options.proofs.Turns.{stage_falls, after_all_falls}
 use Rattle.heap_options.specs.declared.left.Left.{Left}
@@ -39,13 +39,17 @@ no_splits code n most j a over = by_bit (allows code j TwoHeaps) refl
     by_bit true e = splits_over code n most j a (over e)
     by_bit false e = splits_off code n most j a e
 
--- none to try, where they are allowed, means that the row is passed
-row_passed : (code : List ℕ) (n most j a b : ℕ) → allows code j ThreeHeaps ≡ true
-    → triples_to_try code n most j a b ≡ 0 → last_second (n - j) most a < b
-row_passed code n most j a b bit none =
-    let e : last_second (n - j) most a + 1 - b ≡ 0 =
-    sym (ap (λ v. if v then last_second (n - j) most a + 1 - b else 0) bit) ∙ none in
-    omega arith
+-- Some of them are tried where a digit allows them, and no more than there are; none where the last is
+-- tried.
+some_tried : (bit : Bool) (last a units r : ℕ) → r ≡ min units (if bit then last + 1 - a else 0)
+    → 1 ≤ r → (bit ≡ true) × (a + r ≤ last + 1)
+some_tried true last a units r count some = (refl, omega arith)
+some_tried false last a units r count some = absurd (omega arith)
+
+none_tried : (bit : Bool) (last a units r : ℕ) → r ≡ min units (if bit then last + 1 - a else 0)
+    → 1 ≤ units → r ≡ 0 → bit ≡ true → last < a
+none_tried true last a units r count some none is = omega arith
+none_tried false last a units r count some none is = absurd (cc)
 
 module _ (code : List ℕ) (table : Grid) (phi : Pretending) (s : Trial) (ps : List Pair)
     (units : ℕ) (is : IsTrial code table phi s ps) (going : s.walk.heap ≤ bound_of code phi) where
@@ -125,14 +129,14 @@ module _ (code : List ℕ) (table : Grid) (phi : Pretending) (s : Trial) (ps : L
       (inr (stage_falls ((n + 3) * (length code - j)) (stages n (Splits 1))
       (stages n s.walk.untried) (let e = ap (stages n) from in omega arith))))
 
-  pub run_splits : (t : Trial) (r a : ℕ) → s.walk.untried ≡ Splits a → 1 ≤ r → r ≤ units
-      → allows code j TwoHeaps ≡ true → a + r ≤ last_part n s.walk.most j + 1
+  pub run_splits : (t : Trial) (r a : ℕ) → s.walk.untried ≡ Splits a → 1 ≤ r
+      → r ≡ min units (splits_to_try code n s.walk.most j a)
       → t ≡ after_splits s a r
       → IsRun code table phi s t ps units r
-  run_splits t r a from some few bit room_for after =
+  run_splits t r a from some count after =
       let one_up : 1 ≤ a = (subst (IsUntried code n most j) from is.untried_in).0 in
-      let fits : a + r ≤ last_part n most j + 1 =
-      subst (λ v. a + r ≤ last_part n v j + 1) is.most_is room_for in
+      let (bit, fits) = some_tried (allows code j TwoHeaps) (last_part n most j) a units r
+      (subst (λ m. r ≡ min units (splits_to_try code n m j a)) is.most_is count) some in
       let later = three_left code n most j ++ options_from code n most (j + 1) in
       let e : a + r - 1 ≡ a - 1 + r = omega arith in
       let f : 1 + (a - 1) ≡ a = omega arith in
@@ -143,48 +147,55 @@ module _ (code : List ℕ) (table : Grid) (phi : Pretending) (s : Trial) (ps : L
       ∙ append_assoc (splits whole a r) (splits_from code n most j (a + r)) later)
       (ap (splits whole 1) e ∙ parts_add part 1 (a - 1) r
       ∙ ap (λ b. splits whole 1 (a - 1) ++ splits whole b r) f)
-      (omega arith, λ two. (bit, fits)) few (inl some)
+      (omega arith, λ two. (bit, fits)) (omega arith) (inl some)
 
   -- what is untried of the triples
   untried_triples : (a b : ℕ) → s.walk.untried ≡ Triples a b
       → IsUntried code n most j (Triples a b)
   untried_triples a b from = subst (IsUntried code n most j) from is.untried_in
 
-  pub run_triples : (t : Trial) (r a b : ℕ) → s.walk.untried ≡ Triples a b → 1 ≤ r → r ≤ units
-      → b + r ≤ last_second whole s.walk.most a + 1
+  -- how many of them are tried
+  tried_triples : (r a b : ℕ) → r ≡ min units (triples_to_try code n s.walk.most j a b)
+      → r ≡ min units (triples_to_try code n most j a b)
+  tried_triples r a b =
+      subst (λ m. r ≡ min units (triples_to_try code n m j a b)) is.most_is
+
+  pub run_triples : (t : Trial) (r a b : ℕ) → s.walk.untried ≡ Triples a b → 1 ≤ r
+      → r ≡ min units (triples_to_try code n s.walk.most j a b)
       → t ≡ after_triples s a b r
       → IsRun code table phi s t ps units r
-  run_triples t r a b from some few room_for after =
+  run_triples t r a b from some count after =
       let (bit, one_up, order, first_in, _) = untried_triples a b from in
-      let fits : b + r ≤ last_second whole most a + 1 =
-      subst (λ v. b + r ≤ last_second whole v a + 1) is.most_is room_for in
+      let (_, fits) = some_tried (allows code j ThreeHeaps) (last_second whole most a) b units r
+      (tried_triples r a b count) some in
       let later = options_from code n most (j + 1) in
       run_on (Triples a b) (Triples a (b + r)) t (row whole a b r) r from after
       (length-map-range_with_len (λ c. Three a c (whole - a - c)) b r)
       (ap (λ ys. ys ++ later) (triples_first code n most j a b r bit fits)
       ∙ append_assoc (row whole a b r) (triples_from code n most j a (b + r)) later)
       (before_more whole most a b r order)
-      (bit, one_up, omega arith, first_in, λ l. fits) few (inl some)
+      (bit, one_up, omega arith, first_in, λ l. fits) (omega arith) (inl some)
 
-  pub run_row : (t : Trial) (a b : ℕ) → s.walk.untried ≡ Triples a b
-      → triples_to_try code n s.walk.most j a b ≡ 0
+  pub run_row : (t : Trial) (r a b : ℕ) → s.walk.untried ≡ Triples a b → 1 ≤ units → r ≡ 0
+      → r ≡ min units (triples_to_try code n s.walk.most j a b)
       → a < last_first whole s.walk.most
       → t ≡ after_row s a
       → IsRun code table phi s t ps units 0
-  run_row t a b from none more after =
+  run_row t r a b from some zero count more after =
       let (bit, one_up, order, first_in, second_in) = untried_triples a b from in
-      let none' : triples_to_try code n most j a b ≡ 0 =
-      subst (λ v. triples_to_try code n v j a b ≡ 0) is.most_is none in
+      let tried = tried_triples r a b count in
+      let none : triples_to_try code n most j a b ≡ 0 = omega arith in
       let more' : a < last_first whole most =
       subst (λ v. a < last_first whole v) is.most_is more in
-      let over = row_passed code n most j a b bit none' in
+      let over =
+      none_tried (allows code j ThreeHeaps) (last_second whole most a) b units r tried some zero bit in
       let same : s.spent ≡ s.spent + 0 = omega arith in
       run_on (Triples a b) (Triples (a + 1) (a + 1)) t [] 0 from
       (after ∙ ap (λ m. record s {
         walk = record s.walk { untried = Triples (a + 1) (a + 1) };
         spent = m;
       }) same) refl
-      (ap (λ xs. xs ++ options_from code n most (j + 1)) (next_row code n most j a b none' more'))
+      (ap (λ xs. xs ++ options_from code n most (j + 1)) (next_row code n most j a b none more'))
       (before_next_row whole most a b one_up order over second_in
       ∙ sym (append-nil (tried_before whole most (Triples a b))))
       (bit, omega arith, omega arith, λ two. omega arith, λ l. absurd (omega arith))
@@ -228,16 +239,18 @@ module _ (code : List ℕ) (table : Grid) (phi : Pretending) (s : Trial) (ps : L
       (stages n s.walk.untried) (let e = ap (stages n) from in omega arith)))
 
   pub run_none : (t : Trial) (r a : ℕ) → r ≡ 0 → j < length code → s.walk.untried ≡ Splits a
-      → (allows code j TwoHeaps ≡ true → last_part n s.walk.most j < a)
+      → 1 ≤ units → r ≡ min units (splits_to_try code n s.walk.most j a)
       → t ≡ after_cut InTwo code table phi s
       → IsRun code table phi s t ps units r
-  run_none t r a zero inside from over after =
+  run_none t r a zero inside from some count after =
       subst (IsRun code table phi s t ps units) (sym zero)
       (subst (λ w. IsRun code table phi s w ps units 0) (sym after)
       (by_bit (allows code j ThreeHeaps) refl))
     where
       past : allows code j TwoHeaps ≡ true → last_part n most j < a
-      past bit = subst (λ m. last_part n m j < a) is.most_is (over bit)
+      past =
+          none_tried (allows code j TwoHeaps) (last_part n most j) a units r
+          (subst (λ m. r ≡ min units (splits_to_try code n m j a)) is.most_is count) some zero
 
       coming : left_at code n most j s.walk.untried
           ≡ three_left code n most j ++ options_from code n most (j + 1)
@@ -281,22 +294,25 @@ module _ (code : List ℕ) (table : Grid) (phi : Pretending) (s : Trial) (ps : L
           (coming ∙ ap (λ xs. xs ++ options_from code n most (j + 1)) (three_off code n most j e))
           values
 
-  pub run_last_row : (t : Trial) (a b : ℕ) → j < length code → s.walk.untried ≡ Triples a b
-      → triples_to_try code n s.walk.most j a b ≡ 0 → last_first whole s.walk.most ≤ a
+  pub run_last_row : (t : Trial) (r a b : ℕ) → j < length code → s.walk.untried ≡ Triples a b
+      → 1 ≤ units → r ≡ 0
+      → r ≡ min units (triples_to_try code n s.walk.most j a b)
+      → last_first whole s.walk.most ≤ a
       → t ≡ after_cut InThree code table phi s
       → IsRun code table phi s t ps units 0
-  run_last_row t a b inside from none last after =
+  run_last_row t r a b inside from some zero count last after =
       let (bit, one_up, order, first_in, second_in) = untried_triples a b from in
-      let none' : triples_to_try code n most j a b ≡ 0 =
-      subst (λ v. triples_to_try code n v j a b ≡ 0) is.most_is none in
+      let tried = tried_triples r a b count in
+      let none : triples_to_try code n most j a b ≡ 0 = omega arith in
       let last' : last_first whole most ≤ a =
       subst (λ v. last_first whole v ≤ a) is.most_is last in
-      let over = row_passed code n most j a b bit none' in
+      let over =
+      none_tried (allows code j ThreeHeaps) (last_second whole most a) b units r tried some zero bit in
       subst (λ w. IsRun code table phi s w ps units 0) (sym after)
       (to_more (after_cut InThree code table phi s).seen inside
       (ap (left_at code n most j) from
       ∙ ap (λ xs. xs ++ options_from code n most (j + 1))
-      (no_row_left code n most j a b none' last'))
+      (no_row_left code n most j a b none last'))
       (taken (allows code j ThreeHeaps) (cuts InThree whole most) (tried_before whole most (Triples a b))
       (λ _. before_all whole most a b one_up order over second_in first_in last')
       (λ off. absurd (let f = sym bit ∙ off in cc))

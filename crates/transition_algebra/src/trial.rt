@@ -1,14 +1,11 @@
 //! The options of the heaps, tried one after another.
 ghost use Rattle.std.specs.Prelude.{◌≡◌, ◌*◌, ◌⊎◌, ◌+◌, ◌-◌, ◌^◌, ◌<◌, ◌≤◌, ◌↔◌, [], ◌∷◌, ◌++◌, length, min, true, IsTrue, IfOk, OnErr, OnOk, All};
 ghost use Rattle.monoid_table.specs.Grids.{Grid};
-ghost use Rattle.octal_code.specs.Bits.{allows};
-ghost use Rattle.octal_code.specs.declared.leaving.Leaving.TheVariants.{TwoHeaps, ThreeHeaps};
-ghost use Rattle.heap_options.specs.Options.{last_first, last_second};
-ghost use Rattle.heap_options.specs.Walks.{single_left, last_part, triples_to_try};
+ghost use Rattle.heap_options.specs.Walks.{single_left, splits_to_try, triples_to_try};
 ghost use Rattle.pretending.specs.Pretending.{phi_at, HasElement};
 ghost use Rattle.transition_algebra.specs.Heaps.{bound_of};
 ghost use Rattle.transition_algebra.specs.Work.{heap_cost};
-ghost use Rattle.transition_algebra.specs.Trials.{IsTrial, GoesOn, IsReady, IsRun, AreShown, AreKept, after_single, after_splits, after_triples, after_row, after_cut, after_heap};
+ghost use Rattle.transition_algebra.specs.Trials.{IsTrial, GoesOn, IsReady, IsRun, AreShown, AreKept, after_single, after_splits, after_triples, after_cut, after_heap};
 
 use crate::cut_values::{Cut, CutValues};
 use crate::heaps::{bound_of, largest_part, left_value};
@@ -70,18 +67,12 @@ impl<const LANES: usize> Trial<LaneSet<LANES>> {
 
     /// Spends a unit for each split, the smaller part from `part` on, at most `units`.
     fn spend_splits(&mut self, code: &Code, part: u64, units: u64) -> u64
-        requires some { 1 ≤ units }
         requires from_one { 1 ≤ part }
         requires small { self.old.spent + self.old.walk.heap < 2 ^ 48 }
-        ensures within { result ≤ units }
-        ensures none { result ≡ 0
-            → (allows code.now self.old.walk.away TwoHeaps ≡ true
-            → last_part self.old.walk.heap self.old.walk.most self.old.walk.away < part)
-            × (self.new ≡ self.old) }
-        ensures some { 1 ≤ result → (allows code.now self.old.walk.away TwoHeaps ≡ true)
-            × (part + result ≤ last_part self.old.walk.heap self.old.walk.most self.old.walk.away
-            + 1)
-            × (self.new ≡ after_splits self.old part result) }
+        ensures count { result ≡ min units
+            (splits_to_try code.now self.old.walk.heap self.old.walk.most self.old.walk.away part) }
+        ensures none { result ≡ 0 → self.new ≡ self.old }
+        ensures some { 1 ≤ result → self.new ≡ after_splits self.old part result }
     {
         let count = self.walk.pass_splits(code, part, units);
         self.spent += count;
@@ -91,32 +82,16 @@ impl<const LANES: usize> Trial<LaneSet<LANES>> {
     /// Spends a unit for each triple with this first part, the second from `second` on, at most
     /// `units`.
     fn spend_triples(&mut self, code: &Code, first: u64, second: u64, units: u64) -> u64
-        requires some { 1 ≤ units }
         requires from_one { 1 ≤ second }
         requires small { self.old.spent + self.old.walk.heap < 2 ^ 48 }
-        ensures within { result ≤ units }
-        ensures none { result ≡ 0
-            → (triples_to_try code.now self.old.walk.heap self.old.walk.most self.old.walk.away first
-            second
-            ≡ 0)
-            × (self.new ≡ self.old) }
-        ensures some { 1 ≤ result → (allows code.now self.old.walk.away ThreeHeaps ≡ true)
-            × (second + result
-            ≤ last_second (self.old.walk.heap - self.old.walk.away) self.old.walk.most first
-            + 1)
-            × (self.new ≡ after_triples self.old first second result) }
+        ensures count { result ≡ min units (triples_to_try code.now self.old.walk.heap
+            self.old.walk.most self.old.walk.away first second) }
+        ensures none { result ≡ 0 → self.new ≡ self.old }
+        ensures some { 1 ≤ result → self.new ≡ after_triples self.old first second result }
     {
         let count = self.walk.pass_triples(code, first, second, units);
         self.spent += count;
         count
-    }
-
-    /// Turns to the triples with the next first part.
-    fn next_row(&mut self, code: &Code, first: u64)
-        requires { first < last_first (self.old.walk.heap - self.old.walk.away) self.old.walk.most }
-        ensures { self.new ≡ after_row self.old first }
-    {
-        self.walk.pass_row(code, first);
     }
 
     /// Takes over the values of the splits or of the triples, once their units are spent, and turns
@@ -232,7 +207,7 @@ impl<const LANES: usize> Trial<LaneSet<LANES>> {
                     return Ok(spent);
                 }
                 if first < self.walk.last_first() {
-                    self.next_row(scene.code, first);
+                    self.walk.pass_row(scene.code, first);
                 } else {
                     self.take_values(Cut::InThree, scene, pairs, cut_values)?;
                 }

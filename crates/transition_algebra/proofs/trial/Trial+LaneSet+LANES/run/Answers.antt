@@ -33,44 +33,46 @@ pub returns-in_ok-take_values-in-Splits-clause-ok :
 returns-in_ok-take_values-in-Splits-clause-ok g c =
     let inside : c.args.self.now.walk.away < length c.args.scene.now.code.now =
     not_over c.is_over.result c.is_over.ensures.over c.if-is_over.false in
-    let none = c.spend_splits-spent.ensures.none c.if-spent-eq0.true in
+    let same = c.spend_splits-spent.ensures.none c.if-spent-eq0.true in
     run_none c.args.scene.now.code.now c.args.scene.now.table.now c.args.scene.now.phi.now c.args.self.now
     c.args.pairs.now.items c.args.units c.requires.goes_on.trial c.is_ready.ensures.going
-    c.take_values.new.self c.spend_splits-spent.result c.in-Splits.part c.if-spent-eq0.true inside c.in-Splits.is none.0
+    c.take_values.new.self c.spend_splits-spent.result c.in-Splits.part c.if-spent-eq0.true inside c.in-Splits.is c.requires.some c.spend_splits-spent.ensures.count
     (c.in_ok-take_values-in-Splits.ensures.trial
-    ∙ ap (after_cut InTwo c.args.scene.now.code.now c.args.scene.now.table.now c.args.scene.now.phi.now) none.1)
+    ∙ ap (after_cut InTwo c.args.scene.now.code.now c.args.scene.now.table.now c.args.scene.now.phi.now) same)
 
 pub returns-else-spent-eq0-clause-ok : goal.returns-else-spent-eq0-clause-ok
 returns-else-spent-eq0-clause-ok g c =
     let some : 1 ≤ c.spend_splits-spent.result = let f = c.if-spent-eq0.false in omega arith in
-    let made = c.spend_splits-spent.ensures.some some in
     run_splits c.args.scene.now.code.now c.args.scene.now.table.now c.args.scene.now.phi.now c.args.self.now
     c.args.pairs.now.items c.args.units c.requires.goes_on.trial c.is_ready.ensures.going
     c.spend_splits-spent.new.self c.spend_splits-spent.result c.in-Splits.part c.in-Splits.is some
-    c.spend_splits-spent.ensures.within made.0 made.1 made.2
+    c.spend_splits-spent.ensures.count (c.spend_splits-spent.ensures.some some)
 
 pub returns-then-spent-gt0-clause-ok : goal.returns-then-spent-gt0-clause-ok
 returns-then-spent-gt0-clause-ok g c =
     let some : 1 ≤ c.spend_triples-spent.result = let f = c.if-spent-gt0.true in omega arith in
-    let made = c.spend_triples-spent.ensures.some some in
     run_triples c.args.scene.now.code.now c.args.scene.now.table.now c.args.scene.now.phi.now c.args.self.now
     c.args.pairs.now.items c.args.units c.requires.goes_on.trial c.is_ready.ensures.going
     c.spend_triples-spent.new.self c.spend_triples-spent.result c.in-Triples.first
-    c.in-Triples.second c.in-Triples.is some c.spend_triples-spent.ensures.within made.1 made.2
+    c.in-Triples.second c.in-Triples.is some c.spend_triples-spent.ensures.count
+    (c.spend_triples-spent.ensures.some some)
 
 pub returns-then-first-last_first-clause-ok : goal.returns-then-first-last_first-clause-ok
 returns-then-first-last_first-clause-ok g c =
     let zero : c.spend_triples-spent.result ≡ 0 = let f = c.if-spent-gt0.false in omega arith in
-    let none = c.spend_triples-spent.ensures.none zero in
-    let first = c.last_first.ensures in
-    let less : c.in-Triples.first
-    < last_first (c.args.self.now.walk.heap - c.args.self.now.walk.away) c.args.self.now.walk.most =
-    subst (λ t. c.in-Triples.first < last_first (t.walk.heap - t.walk.away) t.walk.most) none.1
-    (let f = c.if-first-last_first.true in omega arith) in
+    let same = c.spend_triples-spent.ensures.none zero in
+    let t = c.spend_triples-spent.new.self in
+    let last = c.last_first.ensures in
+    let here : c.in-Triples.first < last_first (t.walk.heap - t.walk.away) t.walk.most =
+    let f = c.if-first-last_first.true in omega arith in
+    let less = subst (λ t. c.in-Triples.first < last_first (t.walk.heap - t.walk.away) t.walk.most)
+    same here in
     run_row c.args.scene.now.code.now c.args.scene.now.table.now c.args.scene.now.phi.now c.args.self.now
     c.args.pairs.now.items c.args.units c.requires.goes_on.trial c.is_ready.ensures.going
-    c.next_row.new.self c.in-Triples.first c.in-Triples.second c.in-Triples.is none.0 less
-    (c.next_row.ensures ∙ ap (λ t. after_row t c.in-Triples.first) none.1)
+    (record t { walk = c.pass_row.new.self }) c.spend_triples-spent.result c.in-Triples.first
+    c.in-Triples.second c.in-Triples.is c.requires.some zero c.spend_triples-spent.ensures.count less
+    (ap (λ w. record t { walk = w }) (c.pass_row.ensures.row here)
+    ∙ ap (λ u. after_row u c.in-Triples.first) same)
 
 pub returns-in_ok-take_values-in-Triples-clause-ok :
     goal.returns-in_ok-take_values-in-Triples-clause-ok
@@ -78,14 +80,15 @@ returns-in_ok-take_values-in-Triples-clause-ok g c =
     let inside : c.args.self.now.walk.away < length c.args.scene.now.code.now =
     not_over c.is_over.result c.is_over.ensures.over c.if-is_over.false in
     let zero : c.spend_triples-spent.result ≡ 0 = let f = c.if-spent-gt0.false in omega arith in
-    let none = c.spend_triples-spent.ensures.none zero in
+    let same = c.spend_triples-spent.ensures.none zero in
     let first = c.last_first.ensures in
     let last : last_first (c.args.self.now.walk.heap - c.args.self.now.walk.away)
     c.args.self.now.walk.most ≤ c.in-Triples.first =
-    subst (λ t. last_first (t.walk.heap - t.walk.away) t.walk.most ≤ c.in-Triples.first) none.1
+    subst (λ t. last_first (t.walk.heap - t.walk.away) t.walk.most ≤ c.in-Triples.first) same
     (let f = c.if-first-last_first.false in omega arith) in
     run_last_row c.args.scene.now.code.now c.args.scene.now.table.now c.args.scene.now.phi.now c.args.self.now
     c.args.pairs.now.items c.args.units c.requires.goes_on.trial c.is_ready.ensures.going
-    c.take_values-else-first-last_first.new.self c.in-Triples.first c.in-Triples.second inside c.in-Triples.is none.0 last
+    c.take_values-else-first-last_first.new.self c.spend_triples-spent.result c.in-Triples.first c.in-Triples.second inside
+    c.in-Triples.is c.requires.some zero c.spend_triples-spent.ensures.count last
     (c.in_ok-take_values-in-Triples.ensures.trial
-    ∙ ap (after_cut InThree c.args.scene.now.code.now c.args.scene.now.table.now c.args.scene.now.phi.now) none.1)
+    ∙ ap (after_cut InThree c.args.scene.now.code.now c.args.scene.now.table.now c.args.scene.now.phi.now) same)
