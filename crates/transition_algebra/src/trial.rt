@@ -1,9 +1,8 @@
 //! The options of the heaps, tried one after another.
-ghost use Rattle.std.specs.Prelude.{◌≡◌, ◌*◌, ◌⊎◌, ◌+◌, ◌-◌, ◌^◌, ◌<◌, ◌≤◌, ◌↔◌, [], ◌∷◌, ◌++◌, length, min, true, IsTrue, IfOk, OnErr, OnOk, All};
+ghost use Rattle.std.specs.Prelude.{◌≡◌, ◌⊎◌, ◌+◌, ◌^◌, ◌<◌, ◌≤◌, ◌↔◌, [], ◌∷◌, ◌++◌, length, min, IsTrue, IfOk, OnErr, OnOk};
 ghost use Rattle.monoid_table.specs.Grids.{Grid};
 ghost use Rattle.heap_options.specs.Walks.{single_left, splits_to_try, triples_to_try};
 ghost use Rattle.pretending.specs.Pretending.{phi_at, HasElement};
-ghost use Rattle.transition_algebra.specs.Heaps.{bound_of};
 ghost use Rattle.transition_algebra.specs.Work.{heap_cost};
 ghost use Rattle.transition_algebra.specs.Trials.{IsTrial, GoesOn, IsReady, IsRun, AreShown, AreKept, after_single, after_splits, after_triples, after_cut, after_heap};
 
