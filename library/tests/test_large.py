@@ -2,13 +2,12 @@
 
 from __future__ import annotations
 
-import itertools
 import random
 import unittest
-from collections.abc import Iterable
 
 import misere
 from tests import raised
+from tests.made_texts import wrong_at
 
 
 class Large(unittest.TestCase):
@@ -50,26 +49,10 @@ class Large(unittest.TestCase):
         self.assertIsInstance(raised(lambda: self.of.describe("relations")), misere.NotDescribed)
 
 
-def line(name: str, words: Iterable[object]) -> str:
-    return " ".join([name, *map(str, words)]) + "\n"
-
-
-def wrong_at(ones: int) -> str:
-    """A certificate of 0.1, where a position of ones is P if they are odd in number: it says so, but of that many."""
-    order = ones + 3
-    portion = [it for it in range(1, order, 2) if it != ones]
-    rows = [[(x + y) % order for y in range(order)] for x in range(order)]
-    takes = [[it in portion for it in row] for row in rows]
-    apart = [next(z for z in range(order) if x[z] != y[z]) for x, y in itertools.combinations(takes, 2)]
-    text = f"mqc 1\ncode 0.1\norder {order}\nstart 2\nperiod 1\nphi 1 0\n"
-    text += line("portion", portion) + line("words", (f"{it}:1" for it in range(order - 1)))
-    return text + "".join(line("row", row) for row in rows) + line("apart", apart) + "end\n"
-
-
 class Failing(unittest.TestCase):
     def test_more_heaps_are_told_than_there_is_room_for_at_first(self) -> None:
         for ones in (63, 65, 99):
-            stop = raised(lambda: misere.check(wrong_at(ones)))
+            stop = raised(lambda: misere.check(wrong_at(ones, ones + 3)))
             self.assertEqual((stop.number, stop.position) if stop else None, (7, [1] * ones))
 
 

@@ -1,0 +1,263 @@
+"""The calls on infinite quotients as they are built: of 0.354 with the heaps 1 to 5. Others found its certificate, and
+refused the two that are near it; the outcomes are those of other programs, by a search through all plays."""
+
+from __future__ import annotations
+
+import ctypes
+import unittest
+from typing import Any, NamedTuple
+
+from misere._library import Opened
+from tests import samples
+from tests.raw_calls import (
+    NO_MOVE,
+    UNCOUNTED,
+    UNTOLD,
+    Move,
+    called,
+    front,
+    move_of,
+    moves,
+    numbers,
+    text,
+    told_in,
+    words,
+)
+
+LIMIT = 100_000
+RIGHT = (samples / "0.354_heaps_5.mqi").read_bytes()
+# It says that 2 + 3 is P, which is N; and its down takes back half of its up
+WRONG, SHORT = (
+    (samples / f"refused/{it}.mqi").read_bytes() for it in ("outcome_at_two_and_three", "ray_down_too_short")
+)
+
+
+class Check(NamedTuple):
+    name: str
+    certificate: bytes
+    limit: int
+    status: int
+
+
+CHECKS = [
+    Check("right", RIGHT, LIMIT, 0),
+    Check("no text", b"", LIMIT, 1),
+    Check("P at 2 + 3", WRONG, LIMIT, 7),
+    Check("a limit of 1", RIGHT, 1, 8),
+    Check("a ray too short", SHORT, LIMIT, 34),
+]
+
+
+class Failure(NamedTuple):
+    """A certificate, and how much room there is in memory for four; the status, the length, and the heaps that are told."""
+
+    name: str
+    certificate: bytes
+    room: int
+    status: int
+    length: int
+    told: list[int]
+
+
+FAILURES = [
+    Failure("right", RIGHT, 4, 0, UNCOUNTED, [UNTOLD] * 4),
+    Failure("a ray too short", SHORT, 4, 34, UNCOUNTED, [UNTOLD] * 4),
+    Failure("at two heaps with room for one", WRONG, 1, 7, 2, [UNTOLD] * 4),
+    Failure("at two heaps", WRONG, 4, 7, 2, [2, 3, UNTOLD, UNTOLD]),
+]
+
+
+class Family(NamedTuple):
+    """A heap 4 with so many heaps of 2 and of 5, and the outcome."""
+
+    twos: int
+    fives: int
+    outcome: int
+
+
+FAMILY = [
+    Family(1, 6, 1),
+    Family(1, 7, 0),
+    Family(1, 8, 1),
+    Family(1, 10, 1),
+    Family(1, 12, 1),
+    Family(1, 13, 0),
+    Family(1, 14, 1),
+    Family(2, 7, 1),
+    Family(2, 10, 0),
+    Family(2, 11, 1),
+]
+
+
+class Refused(NamedTuple):
+    name: str
+    heaps: list[int]
+    status: int
+
+
+REFUSED = [
+    Refused("no heap's size, and one too large", [6, 0], 10),
+    Refused("above a heap", [1, 10**18 + 1], 10),
+    Refused("too large", [1, 6], 23),
+]
+
+
+class Moved(NamedTuple):
+    """Heaps, and what is to be done with them. They stand rising afterwards."""
+
+    name: str
+    heaps: list[int]
+    told: Move
+
+
+MOVED = [
+    Moved("a winning move", [5, 5, 5, 5, 5, 5, 5, 5, 4, 2], (2, 4, 3, 0, 0)),
+    Moved("lost", [2, 4, 5, 5, 5, 5, 5, 5, 5], (1, 0, 0, 0, 0)),
+    Moved("ended", [], (0, 0, 0, 0, 0)),
+]
+
+
+class Many(NamedTuple):
+    """Positions by their ends, and how many rooms there are in memory for three; the status, and what is told."""
+
+    name: str
+    call: str
+    heaps: list[int]
+    ends: list[int]
+    room: int
+    status: int
+    told: list[Any]
+
+
+HEAPS = [3, 2, 5, 5, 4, 5, 5, 2, 5, 5, 5]
+MANY = [
+    Many("fewer ends than rooms", "outcomes", HEAPS, [2, 2], 3, 11, [UNTOLD] * 3),
+    Many("an end behind the heaps", "outcomes", HEAPS, [2, 2, 12], 3, 11, [UNTOLD] * 3),
+    Many("a heap beyond", "answers", [6], [1], 1, 23, [NO_MOVE] * 3),
+    Many("outcomes", "outcomes", HEAPS, [2, 2, 11], 3, 0, [1, 1, 0]),
+]
+# The kinds of the answers at the ends of the last of these
+KINDS = [2, 0, 1]
+
+
+class Described(NamedTuple):
+    """An output, with so much room in memory for 4096 bytes; the status, and how what is told begins."""
+
+    name: str
+    output: int
+    room: int
+    status: int
+    beginning: bytes = b""
+
+
+DESCRIBED = [
+    Described("plain", 0, 4096, 0),
+    Described("LaTeX", 1, 4096, 0),
+    Described("relations, which there are none of", 2, 4096, 15),
+    Described("JSON", 3, 4096, 0, b"{"),
+    Described("no such output", 4, 4096, 15),
+    Described("no room", 0, 9, 14),
+]
+
+
+def opened() -> Opened:
+    owner = Opened()
+    if status := called("misere_infinite_open", RIGHT, LIMIT, owner):
+        raise AssertionError(f"nothing was opened: {status}")
+    return owner
+
+
+def outcome_of(owner: Opened, heaps: list[int]) -> tuple[int, int]:
+    """The status, and the number that is told."""
+    told = ctypes.c_uint32(UNTOLD)
+    return called("misere_infinite_outcome", owner, words(heaps), told), told.value
+
+
+def answer_of(owner: Opened, heaps: list[int]) -> tuple[int, Move, list[int]]:
+    """The status, the answer that is told, and the heaps as they stand afterwards."""
+    [told], given = moves(1), words(heaps)
+    return called("misere_infinite_answer", owner, given, told), move_of(told), told_in(given)
+
+
+class Opening(unittest.TestCase):
+    def test_infinite_quotients_are_checked_and_opened(self) -> None:
+        for row in CHECKS:
+            with self.subTest(row.name):
+                owner = Opened()
+                self.assertEqual(called("misere_check_infinite", row.certificate, row.limit), row.status)
+                self.assertEqual(called("misere_infinite_open", row.certificate, row.limit, owner), row.status)
+                self.assertEqual(called("misere_infinite_close", owner), 17 if row.status else 0)
+
+    def test_failures_of_tracks_are_told(self) -> None:
+        for row in FAILURES:
+            with self.subTest(row.name):
+                told, count = words([UNTOLD] * 4), ctypes.c_uint64(UNCOUNTED)
+                status = called("misere_infinite_failure", row.certificate, LIMIT, front(told, row.room), count)
+                self.assertEqual((status, count.value, told_in(told)), (row.status, row.length, row.told))
+
+    def test_infinite_owners_are_made_and_closed(self) -> None:
+        one, other = Opened(), Opened()
+        self.assertEqual(called("misere_infinite_share", one, other), 17)
+        self.assertEqual(called("misere_infinite_open", RIGHT, LIMIT, one), 0)
+        self.assertEqual(called("misere_infinite_share", one, other), 0)
+        self.assertEqual(called("misere_infinite_open", SHORT, LIMIT, one), 34)
+        self.assertEqual([called("misere_infinite_close", one) for _ in range(2)], [0, 17])
+        self.assertEqual(outcome_of(one, [1]), (17, UNTOLD))
+        self.assertEqual(outcome_of(other, [1]), (0, 0))
+        self.assertEqual(called("misere_infinite_close", other), 0)
+
+    def test_infinite_quotients_are_described(self) -> None:
+        told, count = text(4096), ctypes.c_uint64(UNCOUNTED)
+        self.assertEqual(called("misere_infinite_describe", Opened(), 0, told, count), 17)
+        self.assertEqual((count.value, set(told)), (UNCOUNTED, {UNTOLD}))
+        owner = opened()
+        for row in DESCRIBED:
+            with self.subTest(row.name):
+                told, count = text(4096), ctypes.c_uint64(UNCOUNTED)
+                status = called("misere_infinite_describe", owner, row.output, front(told, row.room), count)
+                self.assertEqual((status, bytes(told)[: len(row.beginning)]), (row.status, row.beginning))
+                self.assertEqual(count.value == UNCOUNTED, status == 15)
+                self.assertEqual(set(bytes(told)[0 if status else count.value :]), {UNTOLD})
+        self.assertEqual(called("misere_infinite_close", owner), 0)
+
+
+class Answering(unittest.TestCase):
+    def test_a_family_has_its_outcomes(self) -> None:
+        owner = opened()
+        for twos, fives, outcome in FAMILY:
+            with self.subTest(f"4 + {twos} 2 + {fives} 5"):
+                self.assertEqual(outcome_of(owner, [4] + [2] * twos + [5] * fives), (0, outcome))
+        self.assertEqual(called("misere_infinite_close", owner), 0)
+
+    def test_heaps_beyond_are_refused(self) -> None:
+        self.assertEqual(outcome_of(Opened(), [0]), (17, UNTOLD))
+        self.assertEqual(answer_of(Opened(), [0]), (17, NO_MOVE, [0]))
+        owner = opened()
+        for row in REFUSED:
+            with self.subTest(row.name):
+                self.assertEqual(outcome_of(owner, row.heaps), (row.status, UNTOLD))
+                self.assertEqual(answer_of(owner, row.heaps), (row.status, NO_MOVE, row.heaps))
+        self.assertEqual(called("misere_infinite_close", owner), 0)
+
+    def test_moves_by_tracks_are_told(self) -> None:
+        owner = opened()
+        for row in MOVED:
+            with self.subTest(row.name):
+                self.assertEqual(answer_of(owner, row.heaps), (0, row.told, sorted(row.heaps)))
+        self.assertEqual(called("misere_infinite_close", owner), 0)
+
+    def test_many_positions_by_tracks_are_told(self) -> None:
+        told = numbers(3)
+        closed = called("misere_infinite_outcomes", Opened(), words(HEAPS), words([9]), told)
+        self.assertEqual((closed, told_in(told)), (17, [UNTOLD] * 3))
+        owner = opened()
+        for row in MANY:
+            with self.subTest(row.name):
+                room: Any = moves(3) if row.call == "answers" else numbers(3)
+                given = (words(row.heaps), words(row.ends), front(room, row.room))
+                status = called(f"misere_infinite_{row.call}", owner, *given)
+                self.assertEqual((status, told_in(room)), (row.status, row.told))
+        made = moves(3)
+        self.assertEqual(called("misere_infinite_answers", owner, words(HEAPS), words([2, 2, 11]), made), 0)
+        self.assertEqual([it.kind for it in made], KINDS)
+        self.assertEqual(called("misere_infinite_close", owner), 0)
