@@ -4,7 +4,7 @@ Beside what scripts/build makes of a crate it writes a record: the sum of the cr
 and, of a program, the sums of the libraries that it was built over, and that of all sources that it stands on. A
 library's own `format` says over which libraries it was built. So a copied clone, or one with sources as another
 checkout has them, is known for what it is, whatever the times of its files. Where no record stands, as behind `rt ci`,
-times decide.
+times decide, or whoever says that the libraries are those of their sources.
 """
 
 from __future__ import annotations
@@ -63,8 +63,8 @@ def read_crates() -> dict[str, list[str]]:
     return {name: [it for it in names if it in below] for name, names in below.items()}
 
 
-def stood_on(below: dict[str, list[str]], program: str) -> dict[str, list[str]]:
-    """The program and all crates that it stands on, lowest first."""
+def stood_on(below: dict[str, list[str]], *programs: str) -> dict[str, list[str]]:
+    """The programs and all crates that they stand on, lowest first."""
     found: dict[str, list[str]] = {}
 
     def visit(name: str) -> None:
@@ -73,7 +73,8 @@ def stood_on(below: dict[str, list[str]], program: str) -> dict[str, list[str]]:
                 visit(it)
         found.setdefault(name, below[name])
 
-    visit(program)
+    for program in programs:
+        visit(program)
     return found
 
 
@@ -96,19 +97,27 @@ class Record:
 
 
 class Sources:
-    """The crates that a program stands on, and which of them are as they were built."""
+    """The crates that programs stand on, and which of them are as they were built."""
 
-    def __init__(self, program: str) -> None:
-        self.program, self.lines = program, read_lines()
-        self.crates = stood_on(read_crates(), program)
+    def __init__(self, *programs: str) -> None:
+        self.programs, self.lines = programs, read_lines()
+        self.crates = stood_on(read_crates(), *programs)
+
+    def below(self, name: str) -> list[str]:
+        """The crates that a crate stands on, lowest first."""
+        return [it for it in stood_on(self.crates, name) if it != name]
+
+    def libraries(self) -> list[str]:
+        """The crates that aren't programs."""
+        return [it for it in self.crates if it not in self.programs]
 
     def made_of(self, name: str) -> pathlib.Path:
         """The file that stands, and tells all of it, where the crate is built: the program, or the format of a library,
         which holds its sum."""
-        return target_of(name) if name == self.program else out_of(name) / f"rlib/{name}.rlib/format"
+        return target_of(name) if name in self.programs else out_of(name) / f"rlib/{name}.rlib/format"
 
     def record_of(self, name: str) -> pathlib.Path:
-        return out_of(name) / ("sources" if name == self.program else "rlib/sources")
+        return out_of(name) / ("sources" if name in self.programs else "rlib/sources")
 
     def sum_of(self, name: str) -> str:
         """The sum of a crate's own sources, and of its line in crates.txt."""
@@ -131,18 +140,18 @@ class Sources:
     def write(self, name: str, sources: str) -> None:
         """Writes beside what was built of which sources it was."""
         record = Record(sources, sum_of_file(self.made_of(name)))
-        if name == self.program:
-            below = [it for it in self.crates if it != name]
+        if name in self.programs:
+            below = self.below(name)
             records = {it: self.read(it) for it in below}
             record.over = {it: sum_of_file(self.made_of(it)) for it in below}
             record.all = sum_of_all([*((it.sources if it else "") for it in records.values()), sources])
         self.put(name, record)
 
     def renew(self) -> None:
-        """Notes of which sources a program is now that stands over libraries that came out as they were."""
-        record = self.read(self.program)
-        if record:
-            self.write(self.program, record.sources)
+        """Notes of which sources programs are now that stand over libraries that came out as they were."""
+        for program in self.programs:
+            if record := self.read(program):
+                self.write(program, record.sources)
 
     def put(self, name: str, record: Record) -> None:
         """Writes a record, where that can be done."""
@@ -153,7 +162,7 @@ class Sources:
 
     def over(self, name: str, record: Record | None) -> dict[str, str]:
         """The sums of the libraries over which something was built."""
-        if name == self.program:
+        if name in self.programs:
             return record.over if record else {}
         lines = (line.split() for line in self.made_of(name).read_text(errors="replace").splitlines())
         return {line[1]: line[2] for line in lines if line[:1] == ["over"] and len(line) == 3}
@@ -161,8 +170,7 @@ class Sources:
     def fits(self, name: str, record: Record | None) -> bool:
         """Whether what was built stands over the libraries that are there now."""
         over = self.over(name, record)
-        below = [it for it in stood_on(self.crates, name) if it != name]
-        return all(over.get(it) == sum_of_file(self.made_of(it)) for it in below)
+        return all(over.get(it) == sum_of_file(self.made_of(it)) for it in self.below(name))
 
     def is_as_built(self, name: str) -> bool:
         """Whether a crate is built of its sources as they are, over the libraries that are there."""
@@ -171,35 +179,41 @@ class Sources:
             return False
         if record:
             return record.sources == self.sum_of(name) and self.fits(name, record)
-        if name == self.program:
-            return self.is_newer()
+        if name in self.programs:
+            return self.is_newer(name)
         return changed(name) <= made(out_of(name) / "rlib/stamp") and self.fits(name, None)
 
-    def is_newer(self) -> bool:
-        """Whether the program is newer than all sources: what is looked at where no record stands."""
-        return made(self.made_of(self.program)) >= max(changed(it) for it in self.crates)
+    def is_newer(self, program: str) -> bool:
+        """Whether a program is newer than all its sources: what is looked at where no record stands."""
+        return made(self.made_of(program)) >= max(changed(it) for it in stood_on(self.crates, program))
 
-    def program_stands(self) -> bool:
-        """Whether the program is as all sources that it stands on are. Where times alone say so, it is recorded."""
-        record, file = self.read(self.program), self.made_of(self.program)
+    def program_stands(self, program: str) -> bool:
+        """Whether a program is as all sources that it stands on are. Where times alone say so, it is recorded."""
+        record, file = self.read(program), self.made_of(program)
         if not file.is_file():
             return False
-        sums = {it: self.sum_of(it) for it in self.crates}
+        sums = {it: self.sum_of(it) for it in stood_on(self.crates, program)}
         if record:
             return record.all == sum_of_all(sums.values())
-        if stands := self.is_newer():
-            for name in self.crates:
+        if stands := self.is_newer(program):
+            for name in sums:
                 self.stands(name)
-            told = Record(sums[self.program], sum_of_file(file), sum_of_all(sums.values()))
-            self.put(self.program, told)
+            told = Record(sums[program], sum_of_file(file), sum_of_all(sums.values()))
+            self.put(program, told)
         return stands
 
     def stands(self, name: str) -> bool:
         """Whether a crate is as it was built; where times alone say so of a library, it is recorded."""
         stands = self.is_as_built(name)
-        if stands and name != self.program and not self.read(name):
+        if stands and name not in self.programs and not self.read(name):
             self.write(name, self.sum_of(name))
         return stands
+
+    def take(self) -> None:
+        """Records the libraries that are there as made of their sources."""
+        for name in self.libraries():
+            if self.made_of(name).is_file():
+                self.write(name, self.sum_of(name))
 
     def changed_crates(self) -> list[str]:
         """The crates whose sources are others than those that were built."""
