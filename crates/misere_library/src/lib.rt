@@ -9,15 +9,7 @@ mod asking;
 mod bytes;
 mod exports;
 mod heaps;
-#[cfg(test)]
-mod large_tests;
-#[cfg(test)]
-mod made_texts;
 mod many;
-#[cfg(test)]
-mod many_tests;
 mod numbers;
 mod opened_exports;
 mod opening;
-#[cfg(test)]
-mod tests;

@@ -6,14 +6,6 @@ mod causes;
 mod certifying;
 mod describing;
 mod exports;
-#[cfg(test)]
-mod forms_tests;
 mod handing;
 mod opened_texts;
-#[cfg(test)]
-mod rows_tests;
 mod solving;
-#[cfg(test)]
-mod tests;
-#[cfg(test)]
-mod why_tests;
