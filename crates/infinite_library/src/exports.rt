@@ -2,16 +2,16 @@
 ghost use Rattle.std.specs.List.Sorted.{IsNonDecreasing};
 ghost use Rattle.std.specs.Prelude.{◌≡◌, ◌≢◌, ◌≤◌, ◌<◌, ℕ, List, IsPermutation, length, take};
 ghost use Rattle.std.specs.declared.option.Option.TheVariants.{None, Some};
-ghost use Rattle.infinite_queries.specs.Asked.{AreNoAnswers, AreRefused, AreShown, FailsAt, IsNoAnswer, IsNoAnswerToMany, IsOpened, IsUnopened, IsUnshared, TellsAnswer, TellsOutcome};
-ghost use Rattle.infinite_queries.specs.Many.{TellAll};
+ghost use Rattle.infinite_queries.specs.Asked.{AreNoAnswers, AreRefused, AreShown, FailsAt, IsNoAnswer, IsNoAnswerToMany, TellsAnswer, TellsOutcome};
 ghost use Rattle.infinite_texts.specs.Described.{IsOpenedText, IsOpenedUntold};
+ghost use Rattle.told_answers.specs.Asked.{IsOpened, IsUnopened, IsUnshared};
+ghost use Rattle.told_answers.specs.Many.{TellAll};
 
-use infinite_queries::{
-    MisereAnswer, answer, answers, check, close, failure, open, outcome, outcomes, share,
-};
+use infinite_queries::{answer, answers, check, close, failure, open, outcome, outcomes, share};
 use infinite_texts::describe;
 use opened_infinite::OpenedInfinite;
 use std::alloc::Global;
+use told_answers::MisereAnswer;
 
 /// Whether the bytes are an accepted certificate of an infinite quotient: 0, or the number of the
 /// refusal.

@@ -1,9 +1,8 @@
 -- What is told of bytes that show an infinite quotient, and of positions by one that is opened. This
 -- project's own.
-use Rattle.std.specs.Prelude.{◌≡◌, ◌⊎◌, ℕ, List, All, IsPermutation, length}
+use Rattle.std.specs.Prelude.{◌≡◌, ◌⊎◌, ℕ, List, All, IsPermutation}
 use Rattle.std.specs.List.Sorted.{IsNonDecreasing}
 use Rattle.std.specs.declared.option.Option.{Option}
-use Rattle.std.specs.declared.option.Option.TheVariants.{None, Some}
 use Rattle.counted_claims.specs.Counted.{SpeaksOfHeap}
 use Rattle.tracked_claims.specs.Reads.{claim_in}
 use Rattle.tracked_text.specs.Said.{Said}
@@ -17,9 +16,10 @@ use Rattle.positions.specs.Outcomes.{HasOutcome}
 use Rattle.positions.specs.declared.outcome.Outcome.{Outcome}
 use Rattle.player.specs.Answers.{IsRightAnswer}
 use Rattle.player.specs.declared.answering.Answer.{Answer}
-use Rattle.infinite_queries.specs.Numbers.{status_of, outcome_number, IsAnswerOf}
-use Rattle.infinite_queries.specs.Many.{AreEnds}
-use Rattle.infinite_queries.specs.declared.numbers.MisereAnswer.{MisereAnswer}
+use Rattle.told_answers.specs.Numbers.{outcome_number, IsAnswerOf}
+use Rattle.told_answers.specs.Asked.{AreNoEnds, IsNoPosition, IsOpened, IsUnopened}
+use Rattle.told_answers.specs.declared.numbers.MisereAnswer.{MisereAnswer}
+use Rattle.infinite_queries.specs.Numbers.{status_of}
 
 -- The bytes spell a certificate that is right, and k is what is kept of it.
 abbrev pub IsShownBy : List ℕ → Kept → Type 0
@@ -56,18 +56,6 @@ TellsAnswer heaps n k =
     SpeaksOf k heaps
     × ((X : List ℕ) × IsPermutation heaps X × IsNonDecreasing X × TellsRight k n X)
 
--- An infinite quotient is opened, and the rest is true of what is kept of its certificate.
-abbrev pub IsOpened : Option Kept → (Kept → Type 0) → Type 0
-IsOpened opened says = (k : Kept) × (opened ≡ Some k) × says k
-
--- Nothing is opened.
-abbrev pub IsUnopened : Option Kept → ℕ → Type 0
-IsUnopened opened status = (status ≡ 17) × (opened ≡ None)
-
--- The numbers aren't sizes of heaps.
-abbrev pub IsNoPosition : List ℕ → ℕ → Type 0
-IsNoPosition heaps status = (status ≡ 10) × (All IsSize heaps → ⊥)
-
 -- These are heaps, and the certificate doesn't speak of them all.
 abbrev pub LeavesOut : List ℕ → Kept → Type 0
 LeavesOut heaps k = All IsSize heaps × (SpeaksOf k heaps → ⊥)
@@ -80,11 +68,6 @@ IsUnanswered k heaps status = IsNoPosition heaps status ⊎ ((status ≡ 23) × 
 abbrev pub IsNoAnswer : Option Kept → List ℕ → ℕ → Type 0
 IsNoAnswer opened heaps status =
     IsUnopened opened status ⊎ IsOpened opened (λ k. IsUnanswered k heaps status)
-
--- The ends don't cut some of the heaps into as many positions as there is room for.
-abbrev pub AreNoEnds : List ℕ → List ℕ → ℕ → ℕ → Type 0
-AreNoEnds heaps ends room status =
-    (status ≡ 11) × (AreEnds (length heaps) ends → room ≡ length ends → ⊥)
 
 -- Why nothing is told of the positions by this certificate.
 abbrev pub AreUnanswered : Kept → List ℕ → List ℕ → ℕ → ℕ → Type 0
@@ -101,7 +84,3 @@ abbrev pub AreNoAnswers : Option Kept → List ℕ → List ℕ → ℕ → ℕ 
 AreNoAnswers opened heaps ends room status =
     IsUnopened opened status
     ⊎ IsOpened opened (λ k. AreUnanswered k heaps ends room status ⊎ (status ≡ 9))
-
--- Why there is no second owner: nothing is opened, or memory was refused.
-abbrev pub IsUnshared : Option Kept → ℕ → Type 0
-IsUnshared opened status = IsUnopened opened status ⊎ IsOpened opened (λ k. status ≡ 9)

@@ -3,15 +3,16 @@ ghost use Rattle.std.specs.List.Sorted.{IsNonDecreasing};
 ghost use Rattle.std.specs.Prelude.{◌≡◌, ◌≢◌, All, IfOk, IfErr, OnOk, OnErr, IsPermutation, length};
 ghost use Rattle.positions.specs.Positions.{IsSize};
 ghost use Rattle.infinite_queries.specs.Asked.{AreUnanswered, IsSpokenOf, IsUnanswered, TellsAnswer, TellsOutcome};
-ghost use Rattle.infinite_queries.specs.Many.{AreEnds};
+ghost use Rattle.told_answers.specs.Many.{AreEnds};
 
-use crate::heaps::{are_ends, are_sizes, position_of};
-use crate::numbers::{BEYOND, MisereAnswer, NOT_A_HEAP, NOT_ENDS, number, told};
 use allocation::Memory;
 use infinite_answers::Infinite;
 use infinite_player::{answer, answer_at, outcome_at, speaks_of};
 use positions::Position;
 use std::alloc::Global;
+use told_answers::{
+    BEYOND, MisereAnswer, NOT_A_HEAP, NOT_ENDS, are_ends, are_sizes, number, position_of, told,
+};
 
 /// Whether the certificate speaks of the heaps; else why not.
 pub(crate) fn fit(shown: &Infinite, heaps: &[u64]) -> Result<(), u32>

@@ -1,12 +1,22 @@
 //! What is asked of the bytes of a certificate.
 ghost use Rattle.std.specs.Prelude.{◌≡◌, ◌≢◌, ◌≤◌, ◌<◌, IfOk, IfErr, ℕ, List, length, take};
+ghost use Rattle.infinite_answers.specs.Refusals.{refused};
+ghost use Rattle.infinite_queries.specs.Numbers.{status_of};
 ghost use Rattle.infinite_queries.specs.Asked.{AreRefused, AreShown, FailsAt, IsShownBy};
 
-use crate::numbers::{DONE, OUTCOME, status};
 use infinite_answers::{Infinite, InfiniteRefusal};
 use infinite_checker::check_infinite;
 use positions::Position;
 use std::alloc::Global;
+use told_answers::{DONE, OUTCOME, put};
+
+/// The number of a refusal.
+fn status(refusal: &InfiniteRefusal) -> u32
+    ensures number { result ≡ status_of (refused refusal.now) }
+    ensures from_one { 1 ≤ result }
+{
+    refusal.number() as u32
+}
 
 /// What the bytes show, or the number of the refusal.
 pub(crate) fn shown(alloc: Global, bytes: &[u8], limit: u32) -> Result<Infinite, u32>
@@ -29,18 +39,6 @@ pub fn check(alloc: Global, bytes: &[u8], limit: u32) -> u32
         Ok(_) => DONE,
         Err(status) => status,
     }
-}
-
-/// Puts the heaps in front, where there is room for them, and answers how many they are.
-fn put(heaps: &[u64], told: &mut [u64]) -> u64
-    ensures count { result ≡ length heaps.now }
-    ensures front { result ≤ length told.old → take result told.new ≡ heaps.now }
-    ensures stays { length told.old < result → told.new ≡ told.old }
-{
-    if heaps.len() <= told.len() {
-        told[..heaps.len()].copy_from_slice(heaps);
-    }
-    heaps.len() as u64
 }
 
 /// Tells how many heaps the position has, and which, if there is room for them. At it the rule fails

@@ -6,13 +6,10 @@
 
 mod asking;
 mod bytes;
-mod heaps;
 mod many;
-mod numbers;
 mod opening;
 mod queries;
 
 pub use bytes::{check, failure};
-pub use numbers::MisereAnswer;
 pub use opening::{close, open, share};
 pub use queries::{answer, answers, outcome, outcomes};

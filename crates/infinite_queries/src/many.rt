@@ -2,14 +2,13 @@
 ghost use Rattle.std.specs.Prelude.{◌≡◌, ◌≢◌, ◌⊎◌, All, IfOk, IfErr, length};
 ghost use Rattle.positions.specs.Positions.{IsSize};
 ghost use Rattle.infinite_queries.specs.Asked.{AreUnanswered, IsSpokenOf, TellsAnswer, TellsOutcome};
-ghost use Rattle.infinite_queries.specs.Many.{AreEnds, TellAll};
+ghost use Rattle.told_answers.specs.Many.{AreEnds, TellAll};
 
 use crate::asking::{all_fit, answer_of, outcome_of};
-use crate::heaps::start_of;
-use crate::numbers::{DONE, MEMORY, MisereAnswer};
 use allocation::Memory;
 use infinite_answers::Infinite;
 use std::alloc::Global;
+use told_answers::{DONE, MEMORY, MisereAnswer, heaps_at};
 
 /// Tells the outcome of each position.
 fn fill_outcomes(shown: &Infinite, heaps: &[u64], ends: &[u64], told: &mut [u32])
@@ -19,8 +18,7 @@ fn fill_outcomes(shown: &Infinite, heaps: &[u64], ends: &[u64], told: &mut [u32]
     ensures { TellAll TellsOutcome heaps.now ends.now told.new shown.now }
 {
     for at in 0..ends.len() {
-        let (from, to) = (start_of(ends, at) as usize, ends[at] as usize);
-        told[at] = outcome_of(shown, &heaps[from..to]);
+        told[at] = outcome_of(shown, heaps_at(heaps, ends, at));
     }
 }
 
@@ -53,8 +51,7 @@ fn all_answers(
 {
     let mut made = Vec::new(alloc);
     for at in 0..ends.len() {
-        let (from, to) = (start_of(ends, at) as usize, ends[at] as usize);
-        made.push(answer_of(alloc, shown, &heaps[from..to])?)?;
+        made.push(answer_of(alloc, shown, heaps_at(heaps, ends, at))?)?;
     }
     Ok(made)
 }

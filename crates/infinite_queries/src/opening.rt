@@ -1,14 +1,15 @@
 //! Opening and closing.
 ghost use Rattle.std.specs.Prelude.{◌≡◌, ◌≢◌, IfOk, IfErr};
 ghost use Rattle.std.specs.declared.option.Option.TheVariants.{None, Some};
-ghost use Rattle.infinite_queries.specs.Asked.{AreRefused, AreShown, IsOpened, IsUnopened, IsUnshared};
+ghost use Rattle.infinite_queries.specs.Asked.{AreRefused, AreShown};
+ghost use Rattle.told_answers.specs.Asked.{IsOpened, IsUnopened, IsUnshared};
 
 use crate::bytes::shown;
-use crate::numbers::{DONE, MEMORY, NOT_OPEN};
 use allocation::Memory;
 use infinite_answers::Infinite;
 use opened_infinite::{InfiniteQuotient, OpenedInfinite};
 use std::alloc::Global;
+use told_answers::{DONE, MEMORY, NOT_OPEN};
 
 /// The first owner of the certificate, in a box.
 fn boxed(alloc: Global, shown: Infinite) -> Result<Box<InfiniteQuotient>, Memory>

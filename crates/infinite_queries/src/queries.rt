@@ -1,14 +1,15 @@
 //! What is asked of an infinite quotient that was opened.
 ghost use Rattle.std.specs.List.Sorted.{IsNonDecreasing};
 ghost use Rattle.std.specs.Prelude.{◌≡◌, ◌≢◌, IfOk, IfErr, OnOk, OnErr, IsPermutation, length};
-ghost use Rattle.infinite_queries.specs.Asked.{AreNoAnswers, IsNoAnswer, IsNoAnswerToMany, IsOpened, TellsAnswer, TellsOutcome};
-ghost use Rattle.infinite_queries.specs.Many.{TellAll};
+ghost use Rattle.infinite_queries.specs.Asked.{AreNoAnswers, IsNoAnswer, IsNoAnswerToMany, TellsAnswer, TellsOutcome};
+ghost use Rattle.told_answers.specs.Asked.{IsOpened};
+ghost use Rattle.told_answers.specs.Many.{TellAll};
 
 use crate::asking::{answer_in, outcome_in};
 use crate::many::{answers_in, outcomes_in};
-use crate::numbers::{DONE, MisereAnswer, NOT_OPEN};
 use opened_infinite::OpenedInfinite;
 use std::alloc::Global;
+use told_answers::{DONE, MisereAnswer, NOT_OPEN};
 
 /// The outcome of the position of the heaps, by what is opened.
 fn outcome_by(alloc: Global, opened: &mut OpenedInfinite, heaps: &[u64]) -> Result<u32, u32>

@@ -5,7 +5,7 @@ use Rattle.infinite_answers.specs.Kept.{Kept}
 use Rattle.infinite_descriptions.specs.Described.{IsDescription}
 use Rattle.infinite_descriptions.specs.declared.describing.Output.{Output}
 use Rattle.infinite_descriptions.specs.declared.describing.Output.TheVariants.{Plain, Latex, Json}
-use Rattle.infinite_queries.specs.Asked.{IsOpened, IsUnopened}
+use Rattle.told_answers.specs.Asked.{IsOpened, IsUnopened}
 
 -- the number of an output: 0 for readers, 1 for LaTeX, 3 for JSON
 abbrev pub IsOutput : ℕ → Output → Type 0

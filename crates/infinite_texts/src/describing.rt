@@ -6,21 +6,7 @@ use infinite_answers::Infinite;
 use infinite_descriptions::{Output, described};
 use opened_infinite::OpenedInfinite;
 use std::alloc::Global;
-
-/// What was asked for is told.
-const DONE: u32 = 0;
-
-/// A growth was refused.
-const MEMORY: u32 = 9;
-
-/// There is no room for what would be told.
-const NO_ROOM: u32 = 14;
-
-/// There is no such output.
-const NOT_IN_RANGE: u32 = 15;
-
-/// Nothing is opened.
-const NOT_OPEN: u32 = 17;
+use told_answers::{DONE, MEMORY, NO_ROOM, NOT_IN_RANGE, NOT_OPEN};
 
 /// The output of this number.
 fn output_at(output: u32) -> Option<Output>

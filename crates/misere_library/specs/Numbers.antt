@@ -1,15 +1,8 @@
--- The numbers in which the calls of the library answer. This project's own.
-use Rattle.std.specs.Prelude.{◌≡◌, ℕ}
+-- The numbers of verdicts. This project's own.
+use Rattle.std.specs.Prelude.{ℕ}
 use Rattle.misere_theory.specs.Verdicts.{fault_number}
 use Rattle.answers.specs.ByteVerdicts.{ByteVerdict}
 use Rattle.answers.specs.ByteVerdicts.ByteVerdict.{Yes, Text, No, Outcome, Limit, Memory}
-use Rattle.heap_options.specs.declared.left.Left.{Left}
-use Rattle.heap_options.specs.declared.left.Left.TheVariants.{Nothing, One, Two, Three}
-use Rattle.positions.specs.declared.outcome.Outcome.{Outcome as Winner}
-use Rattle.positions.specs.declared.outcome.Outcome.TheVariants.{P, N}
-use Rattle.player.specs.declared.answering.Answer.{Answer}
-use Rattle.player.specs.declared.answering.Answer.TheVariants.{Ended, Lost, Wins}
-use Rattle.misere_library.specs.declared.numbers.MisereAnswer.{MisereAnswer}
 
 -- 0 for yes, and the number of a refusal
 abbrev pub status_of : ByteVerdict → ℕ
@@ -19,43 +12,3 @@ status_of (No fault) = fault_number fault
 status_of (Outcome code X) = 7
 status_of Limit = 8
 status_of Memory = 9
-
-abbrev pub outcome_number : Winner → ℕ
-outcome_number P = 0
-outcome_number N = 1
-
--- the three numbers for what is left of a heap: its parts, rising, and 0 for each that isn't there
-abbrev pub first_of : Left → ℕ
-first_of Nothing = 0
-first_of (One a) = a
-first_of (Two a b) = a
-first_of (Three a b c) = a
-
-abbrev pub second_of : Left → ℕ
-second_of Nothing = 0
-second_of (One a) = 0
-second_of (Two a b) = b
-second_of (Three a b c) = b
-
-abbrev pub third_of : Left → ℕ
-third_of Nothing = 0
-third_of (One a) = 0
-third_of (Two a b) = 0
-third_of (Three a b c) = c
-
--- the numbers of an answer that names no move
-abbrev pub without_move : ℕ → MisereAnswer
-without_move kind = record { kind = kind; heap = 0; first = 0; second = 0; third = 0 }
-
--- the numbers tell the answer
-abbrev pub IsAnswerOf : Answer → MisereAnswer → Type 0
-IsAnswerOf Ended n = n ≡ without_move 0
-IsAnswerOf Lost n = n ≡ without_move 1
-IsAnswerOf (Wins m) n =
-    n ≡ record {
-      kind = 2;
-      heap = m.heap;
-      first = first_of m.left;
-      second = second_of m.left;
-      third = third_of m.left;
-    }

@@ -12,8 +12,10 @@ use Rattle.positions.specs.Outcomes.{HasOutcome}
 use Rattle.positions.specs.declared.outcome.Outcome.{Outcome}
 use Rattle.player.specs.Answers.{IsRightAnswer, SpeaksOf}
 use Rattle.player.specs.declared.answering.Answer.{Answer}
-use Rattle.misere_library.specs.Numbers.{status_of, outcome_number, IsAnswerOf}
-use Rattle.misere_library.specs.declared.numbers.MisereAnswer.{MisereAnswer}
+use Rattle.told_answers.specs.Numbers.{outcome_number, IsAnswerOf}
+use Rattle.told_answers.specs.Asked.{AreNoEnds, IsNoPosition}
+use Rattle.told_answers.specs.declared.numbers.MisereAnswer.{MisereAnswer}
+use Rattle.misere_library.specs.Numbers.{status_of}
 
 -- The bytes are an accepted certificate, to which the verdict under the limit is yes, and of which
 -- the rest is true.
@@ -28,10 +30,6 @@ pub record IsStatus (bytes : List ℕ) (limit status : ℕ) : Type 0 where
   pub number : status ≡ status_of answer
   pub true_of : IsTrueOf bytes limit answer
   pub decided : (answer ≡ verdict bytes limit) ⊎ (answer ≡ Memory)
-
--- The numbers aren't sizes of heaps.
-abbrev pub IsNoPosition : List ℕ → ℕ → Type 0
-IsNoPosition heaps status = (status ≡ 10) × (All IsSize heaps → ⊥)
 
 -- The bytes are refused.
 abbrev pub IsNoQuotient : List ℕ → ℕ → ℕ → Type 0
@@ -50,6 +48,11 @@ abbrev pub IsNo : List ℕ → ℕ → List ℕ → ℕ → Type 0
 IsNo bytes limit heaps status =
     IsNoPosition heaps status
     ⊎ (IsNoQuotient bytes limit status ⊎ (IsBeyond bytes limit heaps status ⊎ (status ≡ 9)))
+
+-- Why nothing is told of many positions: one of these, or the ends don't cut the heaps into them.
+abbrev pub IsNoToMany : List ℕ → ℕ → List ℕ → List ℕ → ℕ → ℕ → Type 0
+IsNoToMany bytes limit heaps ends room status =
+    IsNo bytes limit heaps status ⊎ AreNoEnds heaps ends room status
 
 -- the number of the outcome of the position of these heaps, of which the certificate speaks
 abbrev pub TellsOutcome : List ℕ → ℕ → Certificate → Type 0

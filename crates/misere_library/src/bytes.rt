@@ -1,21 +1,30 @@
 //! What is asked of bytes: each question has them checked.
-ghost use Rattle.std.specs.Prelude.{◌≡◌, ◌≢◌, All, IfOk, IfErr, length};
+ghost use Rattle.std.specs.Prelude.{◌≡◌, ◌≢◌, ◌≤◌, All, IfOk, IfErr, length};
 ghost use Rattle.misere_theory.specs.Certificates.{Accepted, IsHeapOf};
 ghost use Rattle.certificate_text.specs.Spelling.{Spells};
+ghost use Rattle.answers.specs.ByteVerdicts.{refused};
 ghost use Rattle.answers.specs.ByteVerdicts.ByteVerdict.{Yes};
 ghost use Rattle.check_machine.specs.Turns.{verdict};
 ghost use Rattle.positions.specs.Positions.{IsSize};
-ghost use Rattle.misere_library.specs.Queries.{Certify, IsNo, IsStatus};
+ghost use Rattle.misere_library.specs.Numbers.{status_of};
+ghost use Rattle.misere_library.specs.Queries.{Certify, IsNo, IsNoToMany, IsStatus};
 ghost use Rattle.misere_library.specs.Questions.{TellsAsked};
-ghost use Rattle.misere_library.specs.Many.{AreEnds, IsNoToMany, TellAll};
+ghost use Rattle.told_answers.specs.Many.{AreEnds, TellAll};
 
 use crate::asking::{Question, fit, number_at};
-use crate::heaps::{are_ends, are_sizes};
 use crate::many::fill;
-use crate::numbers::{DONE, NOT_A_HEAP, NOT_ENDS, status};
-use answers::Certified;
+use answers::{Certified, Refusal};
 use checker::check;
 use std::alloc::Global;
+use told_answers::{DONE, NOT_A_HEAP, NOT_ENDS, are_ends, are_sizes};
+
+/// The number of a refusal.
+pub(crate) fn status(refusal: &Refusal) -> u32
+    ensures number { result ≡ status_of (refused refusal.now) }
+    ensures from_one { 1 ≤ result }
+{
+    refusal.number() as u32
+}
 
 /// The accepted certificate that the bytes are, or the number of the refusal.
 pub(crate) fn certified(alloc: Global, bytes: &[u8], limit: u32) -> Result<Certified, u32>

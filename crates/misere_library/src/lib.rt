@@ -10,6 +10,5 @@ mod bytes;
 mod exports;
 mod heaps;
 mod many;
-mod numbers;
 mod opened_exports;
 mod opening;

@@ -1,25 +1,17 @@
 //! Many positions, of a certificate that is at hand.
-ghost use Rattle.std.specs.Prelude.{◌≡◌, ◌≢◌, ◌⊎◌, ◌<◌, All, IfOk, length};
+ghost use Rattle.std.specs.Prelude.{◌≡◌, ◌≢◌, ◌⊎◌, All, IfOk, length};
 ghost use Rattle.misere_theory.specs.Certificates.{IsHeapOf};
 ghost use Rattle.positions.specs.Positions.{IsSize};
 ghost use Rattle.misere_library.specs.Queries.{TellsAnswer};
 ghost use Rattle.misere_library.specs.Questions.{TellsAsked};
-ghost use Rattle.misere_library.specs.Many.{AreEnds, TellAll, start_at};
 ghost use Rattle.misere_library.specs.Asked.{AreUnanswered};
+ghost use Rattle.told_answers.specs.Many.{AreEnds, TellAll};
 
 use crate::asking::{Question, all_fit, answer_of, number_at};
-use crate::numbers::{DONE, MEMORY, MisereAnswer};
 use allocation::Memory;
 use answers::Certified;
 use std::alloc::Global;
-
-/// Where a position begins.
-fn start_of(ends: &[u64], at: usize) -> u64
-    requires { at < length ends.now }
-    ensures { result ≡ start_at ends.now at }
-{
-    if at == 0 { 0 } else { ends[at - 1] }
-}
+use told_answers::{DONE, MEMORY, MisereAnswer, heaps_at};
 
 /// Tells what is asked of each position.
 pub(crate) fn fill(
@@ -35,8 +27,7 @@ pub(crate) fn fill(
     ensures { TellAll (TellsAsked question) heaps.now ends.now told.new certified.now }
 {
     for at in 0..ends.len() {
-        let (from, to) = (start_of(ends, at) as usize, ends[at] as usize);
-        told[at] = number_at(question, certified, &heaps[from..to]);
+        told[at] = number_at(question, certified, heaps_at(heaps, ends, at));
     }
 }
 
@@ -77,8 +68,7 @@ fn all_answers(
 {
     let mut made = Vec::new(alloc);
     for at in 0..ends.len() {
-        let (from, to) = (start_of(ends, at) as usize, ends[at] as usize);
-        made.push(answer_of(alloc, certified, &heaps[from..to])?)?;
+        made.push(answer_of(alloc, certified, heaps_at(heaps, ends, at))?)?;
     }
     Ok(made)
 }

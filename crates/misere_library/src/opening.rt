@@ -2,17 +2,18 @@
 ghost use Rattle.std.specs.Prelude.{◌≡◌, ◌≢◌, IfOk, IfErr, length};
 ghost use Rattle.misere_library.specs.Queries.{Certify, IsStatus};
 ghost use Rattle.misere_library.specs.Questions.{TellsAsked};
-ghost use Rattle.misere_library.specs.Many.{TellAll};
-ghost use Rattle.misere_library.specs.Asked.{IsNoAnswer, IsNoAnswerToMany, IsOpened};
+ghost use Rattle.misere_library.specs.Asked.{IsNoAnswer, IsNoAnswerToMany};
+ghost use Rattle.told_answers.specs.Asked.{IsOpened};
+ghost use Rattle.told_answers.specs.Many.{TellAll};
 
 use crate::asking::{Question, tell_in};
 use crate::bytes::certified;
 use crate::many::tell_all_in;
-use crate::numbers::{MEMORY, NOT_OPEN};
 use allocation::Memory;
 use answers::{Certified, true_answers};
 use opened::{Opened, Quotient};
 use std::alloc::Global;
+use told_answers::{MEMORY, NOT_OPEN};
 
 /// The first owner of the certificate, in a box.
 fn boxed(alloc: Global, certified: Certified) -> Result<Box<Quotient>, Memory>

@@ -1,35 +1,15 @@
-use Rattle.std.proofs.Common.{◌≡◌, ℕ, ◌-◌, ◌+◌, length, List, [], ◌∷◌, ◌++◌, get_or, sym, ◌∙◌, ap, subst, arith}
-use Rattle.std.specs.Prelude.{take, drop}
-use Rattle.std.proofs.lemmas.List.{length-append}
+use Rattle.std.proofs.Common.{arith}
 use Rattle.infinite_queries.specs.Asked.{TellsAnswer}
-use Rattle.infinite_queries.specs.Many.{TellFirst}
-use Rattle.infinite_queries.specs.declared.numbers.MisereAnswer.{MisereAnswer}
-use Rattle.infinite_queries.proofs.Told.{tell_next, tell_all}
+use Rattle.told_answers.proofs.Entries.{list_next, all_listed}
 use Rattle.infinite_queries.proofs.many.all_answers.Goals as goal
 
 pub loop-at-preserved : goal.loop-at-preserved
 loop-at-preserved c =
-    let X = c.args.heaps.now in
-    let ends = c.args.ends.now in
-    let at = c.loop-at.at in
-    let C = c.args.shown.now in
-    let made = c.loop-at.made.items in
-    let answer = c.in_ok-answer_of.field-0 in
-    let i = c.loop-at.invariant in
-    let more : c.push.new.self.items ≡ made ++ answer ∷ [] = c.in_ok-push.ensures.items in (
-      ap length more ∙ length-append made (answer ∷ []) ∙ ap (λ (n : ℕ). n + 1) i.0,
-      subst (λ (told : List MisereAnswer). TellFirst TellsAnswer (at + 1) X ends told C) (sym more)
-          (tell_next TellsAnswer X ends made C at answer i.0 i.1
-          (subst (λ (from : ℕ). TellsAnswer (take (get_or ends at 0 - from) (drop from X)) answer C)
-          c.start_of.ensures c.in_ok-answer_of.ensures)),
-    )
+    list_next TellsAnswer c.args.heaps.now c.args.ends.now c.args.shown.now c.loop-at.at c.loop-at.made.items
+    c.push.new.self.items c.heaps_at.result.now c.in_ok-answer_of.field-0 c.loop-at.invariant
+    c.in_ok-push.ensures.items c.heaps_at.ensures c.in_ok-answer_of.ensures
 
 pub returns : goal.returns
 returns c =
-    let i = c.loop-at.invariant in
-    let ends = c.args.ends.now in
-    let at = c.loop-at.at in
-    let past = c.loop-at-test.false in
-    let full : at ≡ length ends = (let e = c.loop-at.auto.at-end in omega arith) in
-    tell_all TellsAnswer c.args.heaps.now ends c.loop-at.made.items c.args.shown.now at
-    (i.0 ∙ full) (omega arith) i.1
+    all_listed TellsAnswer c.args.heaps.now c.args.ends.now c.args.shown.now c.loop-at.at c.loop-at.made.items
+    (let f = c.loop-at-test.false in let e = c.loop-at.auto.at-end in omega arith) c.loop-at.invariant

@@ -1,8 +1,6 @@
-use Rattle.std.proofs.Common.{◌≡◌, length}
 use Rattle.infinite_queries.specs.Asked.{TellsAnswer}
-use Rattle.infinite_queries.specs.Many.{TellFirst}
+use Rattle.told_answers.proofs.Entries.{AreListed}
 use Rattle.infinite_queries.proofs.many.all_answers.Given as goal
 
 abbrev pub invariant-loop-at : goal.invariant-loop-at
-invariant-loop-at l =
-    (length l.made.items ≡ l.at) × TellFirst TellsAnswer l.at l.heaps l.ends l.made.items l.shown
+invariant-loop-at l = AreListed TellsAnswer l.heaps l.ends l.shown l.at l.made.items

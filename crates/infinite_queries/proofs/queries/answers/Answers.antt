@@ -1,8 +1,8 @@
 use Rattle.std.proofs.Common.{◌≡◌, List, sym, subst}
 use Rattle.infinite_answers.specs.Kept.{Kept}
 use Rattle.infinite_queries.specs.Asked.{TellsAnswer}
-use Rattle.infinite_queries.specs.Many.{TellAll}
-use Rattle.infinite_queries.specs.declared.numbers.MisereAnswer.{MisereAnswer}
+use Rattle.told_answers.specs.Many.{TellAll}
+use Rattle.told_answers.specs.declared.numbers.MisereAnswer.{MisereAnswer}
 use Rattle.infinite_queries.proofs.queries.answers.Goals as goal
 
 pub returns-in-Ok-clause-yes : goal.returns-in-Ok-clause-yes

@@ -1,7 +1,7 @@
 use Rattle.std.proofs.Common.{◌≡◌, subst}
 use Rattle.infinite_answers.specs.Kept.{Kept}
 use Rattle.infinite_queries.specs.Asked.{TellsOutcome}
-use Rattle.infinite_queries.specs.Many.{TellAll}
+use Rattle.told_answers.specs.Many.{TellAll}
 use Rattle.infinite_queries.proofs.queries.outcomes.Goals as goal
 
 pub returns-clause-yes : goal.returns-clause-yes

@@ -1,8 +1,6 @@
-use Rattle.std.proofs.Common.{◌≡◌, length}
 use Rattle.misere_library.specs.Questions.{TellsAsked}
-use Rattle.misere_library.specs.Many.{TellFirst}
+use Rattle.told_answers.proofs.Entries.{AreFilled}
 use Rattle.misere_library.proofs.many.fill.Given as goal
 
 abbrev pub invariant-loop-at : goal.invariant-loop-at
-invariant-loop-at l =
-    (length l.told ≡ length l.ends) × TellFirst (TellsAsked l.question) l.at l.heaps l.ends l.told l.certified
+invariant-loop-at l = AreFilled (TellsAsked l.question) l.heaps l.ends l.certified l.at l.told

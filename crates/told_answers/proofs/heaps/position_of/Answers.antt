@@ -3,7 +3,7 @@ use Rattle.std.specs.Prelude.{take}
 use Rattle.std.specs.List.Sorted.{IsPermutation}
 use Rattle.std.proofs.Math.Seq.{take-suc}
 use Rattle.std.proofs.lemmas.List.Sorted.{IsPermutation-push_more}
-use Rattle.infinite_queries.proofs.heaps.position_of.Goals as goal
+use Rattle.told_answers.proofs.heaps.position_of.Goals as goal
 
 pub loop-heap-preserved : goal.loop-heap-preserved
 loop-heap-preserved c =

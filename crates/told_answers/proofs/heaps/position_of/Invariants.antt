@@ -1,6 +1,6 @@
 use Rattle.std.specs.Prelude.{take}
 use Rattle.std.specs.List.Sorted.{IsPermutation}
-use Rattle.infinite_queries.proofs.heaps.position_of.Given as goal
+use Rattle.told_answers.proofs.heaps.position_of.Given as goal
 
 abbrev pub invariant-loop-heap : goal.invariant-loop-heap
 invariant-loop-heap l = IsPermutation (take l.heap-index l.heaps) l.position

@@ -1,33 +1,37 @@
 //! What is told in numbers.
-ghost use Rattle.std.specs.Prelude.{◌≡◌, ◌≤◌};
+ghost use Rattle.std.specs.Prelude.{◌≡◌};
 ghost use Rattle.player.specs.declared.answering.Answer.TheVariants.{Wins};
-ghost use Rattle.infinite_answers.specs.Refusals.{refused};
-ghost use Rattle.infinite_queries.specs.Numbers.{status_of, outcome_number, first_of, second_of, third_of, without_move, IsAnswerOf};
+ghost use Rattle.told_answers.specs.Numbers.{outcome_number, first_of, second_of, third_of, without_move, IsAnswerOf};
 
-use infinite_answers::InfiniteRefusal;
 use player::Answer;
 use positions::{Left, Move, Outcome};
 
 /// Yes, and what was asked for is told.
-pub(crate) const DONE: u32 = 0;
+pub const DONE: u32 = 0;
 
 /// The rule of the code's game fails at a position.
-pub(crate) const OUTCOME: u32 = 7;
+pub const OUTCOME: u32 = 7;
 
 /// A growth was refused.
-pub(crate) const MEMORY: u32 = 9;
+pub const MEMORY: u32 = 9;
 
 /// A heap isn't of 1 to 10^18.
-pub(crate) const NOT_A_HEAP: u32 = 10;
+pub const NOT_A_HEAP: u32 = 10;
 
 /// The ends don't cut the heaps into as many positions as there is room for.
-pub(crate) const NOT_ENDS: u32 = 11;
+pub const NOT_ENDS: u32 = 11;
+
+/// There is no room for what would be told.
+pub const NO_ROOM: u32 = 14;
+
+/// A number that is asked for is out of its range.
+pub const NOT_IN_RANGE: u32 = 15;
 
 /// Nothing is opened.
-pub(crate) const NOT_OPEN: u32 = 17;
+pub const NOT_OPEN: u32 = 17;
 
 /// The certificate doesn't speak of all the heaps.
-pub(crate) const BEYOND: u32 = 23;
+pub const BEYOND: u32 = 23;
 
 /// What to do in a position.
 #[repr(C)]
@@ -43,16 +47,8 @@ pub struct MisereAnswer {
     pub third: u64,
 }
 
-/// The number of a refusal.
-pub(crate) fn status(refusal: &InfiniteRefusal) -> u32
-    ensures number { result ≡ status_of (refused refusal.now) }
-    ensures from_one { 1 ≤ result }
-{
-    refusal.number() as u32
-}
-
 /// The number of an outcome.
-pub(crate) fn number(outcome: Outcome) -> u32
+pub fn number(outcome: Outcome) -> u32
     ensures { result ≡ outcome_number outcome }
 {
     match outcome {
@@ -62,7 +58,7 @@ pub(crate) fn number(outcome: Outcome) -> u32
 }
 
 /// An answer in numbers.
-pub(crate) fn told(answer: Answer) -> MisereAnswer
+pub fn told(answer: Answer) -> MisereAnswer
     ensures { IsAnswerOf answer result }
 {
     match answer {

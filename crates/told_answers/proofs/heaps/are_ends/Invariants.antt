@@ -1,6 +1,6 @@
 use Rattle.std.proofs.Common.{◌≡◌, ℕ, ◌<◌, ◌≤◌}
-use Rattle.misere_library.specs.Many.{start_at, end_at}
-use Rattle.misere_library.proofs.heaps.are_ends.Given as goal
+use Rattle.told_answers.specs.Many.{start_at, end_at}
+use Rattle.told_answers.proofs.heaps.are_ends.Given as goal
 
 abbrev pub invariant-loop-end : goal.invariant-loop-end
 invariant-loop-end l =

@@ -1,6 +1,5 @@
 -- Many positions in one list of heaps. This project's own.
 use Rattle.std.specs.Prelude.{◌≡◌, ℕ, ◌-◌, ◌<◌, ◌≤◌, List, ◌∷◌, length, take, drop, slice_index_or}
-use Rattle.infinite_answers.specs.Kept.{Kept}
 
 -- A position begins where the one before it ends, the first at 0.
 abbrev pub start_at : List ℕ → ℕ → ℕ
@@ -18,14 +17,13 @@ abbrev pub AreEnds : ℕ → List ℕ → Type 0
 AreEnds n ends =
     (i : ℕ) → i < length ends → (start_at ends i ≤ end_at ends i) × (end_at ends i ≤ n)
 
--- what is told of each of the first positions: its own entry of the list
-abbrev pub TellFirst : {A : Type 0} → (List ℕ → A → Kept → Type 0) → ℕ → List ℕ → List ℕ → List A
-    → Kept → Type 0
-TellFirst {A} Tells count heaps ends told k =
-    (i : ℕ) (d : A) → i < count → Tells (part heaps ends i) (slice_index_or told i d) k
+-- what is told of each of the first k positions by a certificate: its own entry of the list
+abbrev pub TellFirst : {A C : Type 0} → (List ℕ → A → C → Type 0) → ℕ → List ℕ → List ℕ → List A → C
+    → Type 0
+TellFirst {A} Tells k heaps ends told c =
+    (i : ℕ) (d : A) → i < k → Tells (part heaps ends i) (slice_index_or told i d) c
 
 -- what is told of all positions, one entry for each
-abbrev pub TellAll : {A : Type 0} → (List ℕ → A → Kept → Type 0) → List ℕ → List ℕ → List A → Kept
-    → Type 0
-TellAll Tells heaps ends told k =
-    (length told ≡ length ends) × TellFirst Tells (length ends) heaps ends told k
+abbrev pub TellAll : {A C : Type 0} → (List ℕ → A → C → Type 0) → List ℕ → List ℕ → List A → C → Type 0
+TellAll Tells heaps ends told c =
+    (length told ≡ length ends) × TellFirst Tells (length ends) heaps ends told c

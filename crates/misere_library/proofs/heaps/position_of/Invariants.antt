@@ -1,6 +1,0 @@
-use Rattle.std.specs.Prelude.{take}
-use Rattle.std.specs.List.Sorted.{IsPermutation}
-use Rattle.misere_library.proofs.heaps.position_of.Given as goal
-
-abbrev pub invariant-loop-heap : goal.invariant-loop-heap
-invariant-loop-heap l = IsPermutation (take l.heap-index l.heaps) l.position
