@@ -57,25 +57,13 @@ def move_of(told: Told) -> Move:
 
 def called(name: str, *given: Any) -> int:
     """The status of a call. Bytes and arrays are given as slices, numbers as they are, and anything else by a pointer.
-
-    Where a slice is empty, the call is made twice, by some address and by a null pointer, and has to answer alike.
-    (misere.h asks for an address. Callers in C give a null pointer all the same.)"""
-    call = getattr(library, name)
-    status = call(*_passed(given, NOWHERE))
-    if any(isinstance(it, (bytes, ctypes.Array)) and not len(it) for it in given):
-        other = call(*_passed(given, None))
-        if other != status:
-            raise AssertionError(f"{name} of an empty slice is {status} by an address, and {other} by a null pointer")
-    return int(status)
-
-
-def _passed(given: Sequence[Any], nowhere: int | None) -> list[Any]:
+    (The pointer of an empty slice is no null pointer, as misere.h asks.)"""
     passed: list[Any] = []
     for it in given:
         if isinstance(it, bytes):
-            passed += [it if it or nowhere else None, len(it)]
+            passed += [it, len(it)]
         elif isinstance(it, ctypes.Array):
-            passed += [ctypes.addressof(it) if len(it) else nowhere, len(it)]
+            passed += [ctypes.addressof(it) if len(it) else NOWHERE, len(it)]
         else:
             passed.append(it if isinstance(it, int) else ctypes.addressof(it))
-    return passed
+    return int(getattr(library, name)(*passed))
