@@ -6,16 +6,25 @@ use Rattle.answers.specs.ByteVerdicts.{ByteVerdict, answer_of}
 use Rattle.answers.specs.ByteVerdicts.ByteVerdict.{Memory}
 use Rattle.check_machine.specs.Turns.{Phase, is_ended, stage_of, Runs, Reaches}
 use Rattle.check_machine.specs.Turns.Phase.{Reading as AtReading, Laws as AtLaws, Keys as AtKeys, Products as AtProducts, Periods as AtPeriods, Separating as AtSeparating, Heaps as AtHeaps, Closing as AtClosing, Elements as AtElements, Ended as AtEnded}
+use Rattle.checker.specs.declared.any_paired.AnyPaired.{AnyPaired}
+use Rattle.checker.specs.declared.any_paired.AnyPaired.TheVariants.{One, Four, Eight, Sixteen, SixtyFour}
 use Rattle.checker.specs.declared.paired.Paired.{Paired}
 use Rattle.checker.specs.declared.paired.Paired.TheVariants.{Heaps, Elements, Closing}
 use Rattle.checker.specs.declared.stage.Stage.{Stage}
-use Rattle.checker.specs.declared.stage.Stage.TheVariants.{Reading, Laws, Keys, Products, Periods, Separating, One, Four, Eight, Sixteen, SixtyFour, Ended}
+use Rattle.checker.specs.declared.stage.Stage.TheVariants.{Reading, Laws, Keys, Products, Periods, Separating, Pairs, Ended}
 
 -- the stage in plain data, which tells nothing of the width of its sets
 abbrev pub phase_of_paired : {L : ℕ} {A : Type 0} → Paired L A → Phase
 phase_of_paired (Heaps h) = AtHeaps h
 phase_of_paired (Elements e) = AtElements e
 phase_of_paired (Closing s) = AtClosing s
+
+abbrev pub phase_of_any : {A : Type 0} → AnyPaired A → Phase
+phase_of_any (One p) = phase_of_paired p
+phase_of_any (Four p) = phase_of_paired p
+phase_of_any (Eight p) = phase_of_paired p
+phase_of_any (Sixteen p) = phase_of_paired p
+phase_of_any (SixtyFour p) = phase_of_paired p
 
 abbrev pub phase_of : {A : Type 0} → Stage A → Phase
 phase_of Reading = AtReading
@@ -24,11 +33,7 @@ phase_of (Keys k) = AtKeys k
 phase_of (Products p) = AtProducts p
 phase_of (Periods p) = AtPeriods p
 phase_of (Separating s) = AtSeparating s
-phase_of (One p) = phase_of_paired p
-phase_of (Four p) = phase_of_paired p
-phase_of (Eight p) = phase_of_paired p
-phase_of (Sixteen p) = phase_of_paired p
-phase_of (SixtyFour p) = phase_of_paired p
+phase_of (Pairs p) = phase_of_any p
 phase_of (Ended r) = AtEnded (answer_of r)
 
 abbrev pub has_ended : {A : Type 0} → Stage A → Bool
@@ -46,6 +51,10 @@ ending s = answered (phase_of s)
 abbrev pub arrived : {L : ℕ} {A : Type 0} → Result (Paired L A) (Result Certificate (Refusal A)) → Phase
 arrived (Ok p) = phase_of_paired p
 arrived (Err r) = AtEnded (answer_of r)
+
+abbrev pub arrived_any : {A : Type 0} → Result (AnyPaired A) (Result Certificate (Refusal A)) → Phase
+arrived_any (Ok p) = phase_of_any p
+arrived_any (Err r) = AtEnded (answer_of r)
 
 -- The check stands where its turns brought it, or ended there for want of memory.
 abbrev pub StandsAt : Phase → Phase → Type 0

@@ -5,6 +5,7 @@
 //! A unit is one turn of one stage, and `Stage::advance` drives both.
 #![tactic(auto)]
 
+mod any_paired;
 mod checking;
 mod closing;
 mod contexts;

@@ -1,14 +1,10 @@
-//! The stages over the pairs of heaps, with sets as wide as the order needs.
-ghost use Rattle.std.specs.Prelude.{◌≡◌, ◌≤◌, ℕ, List};
-ghost use Rattle.misere_theory.specs.Certificates.{Canonical};
-ghost use Rattle.check_machine.specs.Turns.Phase.{Heaps as AtHeaps};
-ghost use Rattle.checker.specs.Stages.{Comes, Stays, arrived, phase_of, phase_of_paired};
+//! The stages over the pairs of heaps, at one width.
+ghost use Rattle.std.specs.Prelude.{◌≤◌, ℕ, List};
+ghost use Rattle.checker.specs.Stages.{Comes, Stays, arrived, phase_of_paired};
 
 use crate::closing::Closing;
 use crate::elements::Elements;
 use crate::heaps::Heaps;
-use crate::lawful_certificate::LawfulCertificate;
-use crate::stage::Stage;
 use allocation::SmallAllocator;
 use answers::{Certified, Refusal};
 use std::alloc::Global;
@@ -23,25 +19,6 @@ pub enum Paired<const LANES: usize, A: SmallAllocator = Global> {
 
 /// How a check ends: its answer.
 pub type Ending<A> = Result<Certified<A>, Refusal<A>>;
-
-/// The first stage over pairs, with sets as wide as the order needs: no other place picks a width.
-pub fn over_pairs<A: SmallAllocator + Copy>(alloc: A, certificate: LawfulCertificate<A>) -> Stage<A>
-    requires { Canonical certificate }
-    ensures { phase_of result ≡ AtHeaps (record { certificate = certificate; spent = 0 }) }
-{
-    let order = certificate.order();
-    if order <= 64 {
-        Stage::One(Paired::Heaps(Heaps::new(alloc, certificate)))
-    } else if order <= 256 {
-        Stage::Four(Paired::Heaps(Heaps::new(alloc, certificate)))
-    } else if order <= 512 {
-        Stage::Eight(Paired::Heaps(Heaps::new(alloc, certificate)))
-    } else if order <= 1024 {
-        Stage::Sixteen(Paired::Heaps(Heaps::new(alloc, certificate)))
-    } else {
-        Stage::SixtyFour(Paired::Heaps(Heaps::new(alloc, certificate)))
-    }
-}
 
 impl<const LANES: usize, A: SmallAllocator + Copy> Paired<LANES, A> {
     /// Takes turns in place, while the stage surely goes on and there are units.

@@ -6,9 +6,9 @@ ghost use Rattle.check_machine.specs.Turns.Phase.{Separating as AtSeparating};
 ghost use Rattle.checker.specs.Separates.{GoesOn, HasLooked, HasTried, IsTold};
 ghost use Rattle.checker.specs.Stages.{phase_of};
 
+use crate::any_paired::AnyPaired;
 use crate::contexts::{contexts, least_apart};
 use crate::lawful_certificate::{LawfulCertificate, is_lawful};
-use crate::paired::over_pairs;
 use crate::stage::Stage;
 use allocation::{Memory, SmallAllocator};
 use answers::Refusal;
@@ -157,7 +157,7 @@ impl<A: SmallAllocator + Copy> Separating<A> {
         match self.look(&mut 1) {
             Next::Goes => Stage::Separating(self),
             Next::Wrong => Stage::Ended(Err(Refusal::Apart)),
-            Next::Over => over_pairs(alloc, self.certificate),
+            Next::Over => Stage::Pairs(AnyPaired::new(alloc, self.certificate)),
         }
     }
 }

@@ -2,9 +2,9 @@
 ghost use Rattle.std.specs.Prelude.{◌≡◌, ◌*◌, ◌+◌, ◌-◌, ◌<◌, ◌≤◌, ℕ, List, Some, true, false};
 ghost use Rattle.answers.specs.ByteVerdicts.{answer_of};
 
+use crate::any_paired::AnyPaired;
 use crate::keys::Keys;
 use crate::laws::Laws;
-use crate::paired::Paired;
 use crate::periods::Periods;
 use crate::products::Products;
 use crate::reading;
@@ -22,11 +22,7 @@ pub enum Stage<A: SmallAllocator = Global> {
     Products(Products<A>),
     Periods(Periods<A>),
     Separating(Separating<A>),
-    One(Paired<1, A>),
-    Four(Paired<4, A>),
-    Eight(Paired<8, A>),
-    Sixteen(Paired<16, A>),
-    SixtyFour(Paired<64, A>),
+    Pairs(AnyPaired<A>),
     Ended(Result<Certified<A>, Refusal<A>>),
 }
 
@@ -69,11 +65,7 @@ impl<A: SmallAllocator + Copy> Stage<A> {
             Stage::Keys(keys) => keys.go_on(left),
             Stage::Products(products) => products.go_on(left),
             Stage::Separating(separating) => separating.go_on(left),
-            Stage::One(paired) => paired.go_on(left),
-            Stage::Four(paired) => paired.go_on(left),
-            Stage::Eight(paired) => paired.go_on(left),
-            Stage::Sixteen(paired) => paired.go_on(left),
-            Stage::SixtyFour(paired) => paired.go_on(left),
+            Stage::Pairs(paired) => paired.go_on(left),
             _ => {}
         }
     }
@@ -124,24 +116,8 @@ impl<A: SmallAllocator + Copy> Stage<A> {
                 *left -= 1;
                 separating.turn(alloc)
             }
-            Stage::One(paired) => match paired.work(alloc, limit, left) {
-                Ok(paired) => Stage::One(paired),
-                Err(answer) => Stage::Ended(answer),
-            },
-            Stage::Four(paired) => match paired.work(alloc, limit, left) {
-                Ok(paired) => Stage::Four(paired),
-                Err(answer) => Stage::Ended(answer),
-            },
-            Stage::Eight(paired) => match paired.work(alloc, limit, left) {
-                Ok(paired) => Stage::Eight(paired),
-                Err(answer) => Stage::Ended(answer),
-            },
-            Stage::Sixteen(paired) => match paired.work(alloc, limit, left) {
-                Ok(paired) => Stage::Sixteen(paired),
-                Err(answer) => Stage::Ended(answer),
-            },
-            Stage::SixtyFour(paired) => match paired.work(alloc, limit, left) {
-                Ok(paired) => Stage::SixtyFour(paired),
+            Stage::Pairs(paired) => match paired.work(alloc, limit, left) {
+                Ok(paired) => Stage::Pairs(paired),
                 Err(answer) => Stage::Ended(answer),
             },
             Stage::Ended(answer) => Stage::Ended(answer),

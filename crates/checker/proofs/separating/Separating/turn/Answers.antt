@@ -16,6 +16,6 @@ returns-in-Wrong g c =
 pub returns-in-Over : goal.returns-in-Over
 returns-in-Over g c =
     let h = c.in-Over.ensures in
-    λ limit. c.over_pairs.ensures
+    λ limit. c.new.ensures
     ∙ ap (λ (s : SeparatingView). Heaps (record { certificate = s.certificate; spent = 0 })) c.self-in-Over.view_is
     ∙ sym (turn_still [] limit _ _ _ _ (h.runs [] limit) h.leads.0 (h.leads.2 limit))

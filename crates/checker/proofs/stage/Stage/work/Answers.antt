@@ -1,6 +1,5 @@
--- Stage by stage, and for each width of the sets: what comes next.
+-- Stage by stage: what comes next.
 use Rattle.std.proofs.Common.{inl, sym, arith}
-use Rattle.checker.proofs.Fit.{paired_fits}
 use Rattle.checker.proofs.ComeLemmas.{comes_none, comes_one}
 use Rattle.checker.proofs.stage.Stage.work.Goals as goal
 
@@ -34,70 +33,8 @@ returns-in-Separating g c =
 
 pub returns-in-Ok : goal.returns-in-Ok
 returns-in-Ok g c =
-    λ _. rw c.in-One.is (rw c.in-Ok.is at (c.work-in-One.ensures c.args.bytes.now))
+    λ _. rw c.in-Pairs.is (rw c.in-Ok.is at (c.work-in-Pairs.ensures c.args.bytes.now))
 
 pub returns-in-Err : goal.returns-in-Err
 returns-in-Err g c =
-    λ _. rw c.in-One.is (rw c.in-Err.is at (c.work-in-One.ensures c.args.bytes.now))
-
-pub work-requires-in-One : goal.work-requires-in-One
-work-requires-in-One g c = (
-  paired_fits g.row.A g.A.Allocator g.met.A.SmallAllocator.small 1 (omega arith),
-  omega arith,
-)
-
-pub returns-in-Ok-work : goal.returns-in-Ok-work
-returns-in-Ok-work g c =
-    λ _. rw c.in-Four.is (rw c.in-Ok-work.is at (c.work-in-Four.ensures c.args.bytes.now))
-
-pub returns-in-Err-work : goal.returns-in-Err-work
-returns-in-Err-work g c =
-    λ _. rw c.in-Four.is (rw c.in-Err-work.is at (c.work-in-Four.ensures c.args.bytes.now))
-
-pub work-requires-in-Four : goal.work-requires-in-Four
-work-requires-in-Four g c = (
-  paired_fits g.row.A g.A.Allocator g.met.A.SmallAllocator.small 4 (omega arith),
-  omega arith,
-)
-
-pub returns-in-Ok-work-2 : goal.returns-in-Ok-work-2
-returns-in-Ok-work-2 g c =
-    λ _. rw c.in-Eight.is (rw c.in-Ok-work-2.is at (c.work-in-Eight.ensures c.args.bytes.now))
-
-pub returns-in-Err-work-2 : goal.returns-in-Err-work-2
-returns-in-Err-work-2 g c =
-    λ _. rw c.in-Eight.is (rw c.in-Err-work-2.is at (c.work-in-Eight.ensures c.args.bytes.now))
-
-pub work-requires-in-Eight : goal.work-requires-in-Eight
-work-requires-in-Eight g c = (
-  paired_fits g.row.A g.A.Allocator g.met.A.SmallAllocator.small 8 (omega arith),
-  omega arith,
-)
-
-pub returns-in-Ok-work-3 : goal.returns-in-Ok-work-3
-returns-in-Ok-work-3 g c =
-    λ _. rw c.in-Sixteen.is (rw c.in-Ok-work-3.is at (c.work-in-Sixteen.ensures c.args.bytes.now))
-
-pub returns-in-Err-work-3 : goal.returns-in-Err-work-3
-returns-in-Err-work-3 g c =
-    λ _. rw c.in-Sixteen.is (rw c.in-Err-work-3.is at (c.work-in-Sixteen.ensures c.args.bytes.now))
-
-pub work-requires-in-Sixteen : goal.work-requires-in-Sixteen
-work-requires-in-Sixteen g c = (
-  paired_fits g.row.A g.A.Allocator g.met.A.SmallAllocator.small 16 (omega arith),
-  omega arith,
-)
-
-pub returns-in-Ok-work-4 : goal.returns-in-Ok-work-4
-returns-in-Ok-work-4 g c =
-    λ _. rw c.in-SixtyFour.is (rw c.in-Ok-work-4.is at (c.work-in-SixtyFour.ensures c.args.bytes.now))
-
-pub returns-in-Err-work-4 : goal.returns-in-Err-work-4
-returns-in-Err-work-4 g c =
-    λ _. rw c.in-SixtyFour.is (rw c.in-Err-work-4.is at (c.work-in-SixtyFour.ensures c.args.bytes.now))
-
-pub work-requires-in-SixtyFour : goal.work-requires-in-SixtyFour
-work-requires-in-SixtyFour g c = (
-  paired_fits g.row.A g.A.Allocator g.met.A.SmallAllocator.small 64 (omega arith),
-  omega arith,
-)
+    λ _. rw c.in-Pairs.is (rw c.in-Err.is at (c.work-in-Pairs.ensures c.args.bytes.now))

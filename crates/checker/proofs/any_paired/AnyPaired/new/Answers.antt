@@ -1,6 +1,6 @@
 use Rattle.std.proofs.Common.{arith}
 use Rattle.checker.proofs.Fit.{heaps_fits}
-use Rattle.checker.proofs.paired.over_pairs.Goals as goal
+use Rattle.checker.proofs.any_paired.AnyPaired.new.Goals as goal
 
 pub new-requires : goal.new-requires
 new-requires g c =
