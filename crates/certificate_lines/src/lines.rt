@@ -78,7 +78,8 @@ pub fn rows<A: Allocator>(
     Ok(found)
 }
 
-/// A line of one number, from `least` up to below the limit.
+/// A line of one number, from `least` up to below the limit. One out of this range is refused before
+/// the line's end is taken, so a reader that gives up is still in that line.
 #[tactic(auto, unfolding(certificate_text::specs::Reading::field_at))]
 pub fn field(reader: &mut Reader<'_>, name: &[u8], least: u16, limit: u16) -> Result<u16, TextFault>
     requires { 0 < limit }
@@ -88,10 +89,10 @@ pub fn field(reader: &mut Reader<'_>, name: &[u8], least: u16, limit: u16) -> Re
     reader.fixed(name)?;
     reader.fixed(b" ")?;
     let x = reader.number(limit)?;
-    reader.fixed(b"\n")?;
     if x < least {
         return Err(TextFault::Text);
     }
+    reader.fixed(b"\n")?;
     Ok(x)
 }
 
