@@ -19,7 +19,7 @@ fn numbers<A: Allocator>(
         (with_front found.old.items (words_at (number_at limit) count reader.old)) }
 {
     for _ in 0..count {
-        reader.fixed(b" ")?;
+        reader.space()?;
         let x = reader.number(limit)?;
         found.push(x)?;
     }

@@ -1,5 +1,5 @@
 //! Bytes that are read from the front.
-ghost use Rattle.std.specs.Prelude.{length, ◌≡◌, ◌≢◌, ◌==◌, ◌<◌, ◌↔◌, ◌++◌, ◌∷◌, IfOk, IsTrue, MatchBool, MatchOption, All, Some, None, [], position};
+ghost use Rattle.std.specs.Prelude.{length, ◌≡◌, ◌≢◌, ◌==◌, ◌<◌, ◌↔◌, ◌++◌, ◌∷◌, IfOk, IsTrue, MatchBool, MatchOption, All, Some, None, [], codes, position};
 ghost use Rattle.std.specs.Bool.{OnFalse};
 ghost use Rattle.certificate_lines.specs.Given.{Gives};
 ghost use Rattle.certificate_text.specs.Reading.{fixed_at, number_at, code_digit_at};
@@ -67,6 +67,20 @@ impl<'a> Reader<'a> {
             Ok(())
         } else {
             Err(TextFault::Text)
+        }
+    }
+
+    /// Takes a space. A text has one before nearly each number.
+    #[tactic(auto, unfolding(certificate_text::specs::Reading::fixed_at))]
+    pub fn space(&mut self) -> Result<(), TextFault>
+        ensures { Gives (λ _. self.new) result (fixed_at (codes " ") self.old) }
+    {
+        match self.rest {
+            [b' ', rest @ ..] => {
+                self.rest = rest;
+                Ok(())
+            }
+            _ => Err(TextFault::Text),
         }
     }
 
