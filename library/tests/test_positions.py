@@ -3,15 +3,18 @@
 from __future__ import annotations
 
 import array
+import importlib
 import unittest
 from typing import Any
 
 from tests import quotient, raised
 
+# (imported so, mypy says the same with numpy and without it)
+numpy: Any
 try:
-    import numpy
+    numpy = importlib.import_module("numpy")
 except ImportError:
-    numpy = None  # type: ignore[assignment]
+    numpy = None
 
 
 def masked(table: Any, **mask: Any) -> Any:
