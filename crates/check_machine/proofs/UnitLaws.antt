@@ -8,7 +8,7 @@ use Rattle.monoid_table.specs.declared.fault.LawFault.TheVariants.{Law}
 use Rattle.misere_theory.specs.Games.{leaves_three, IsCode}
 use Rattle.misere_theory.specs.Pairs.{heap_bound}
 use Rattle.misere_theory.proofs.Bound.{bound_with, bound_without}
-use Rattle.misere_theory.proofs.Rules.{true_or_false}
+use Rattle.misere_theory.proofs.LocalRule.{true_or_false}
 use Rattle.misere_theory.specs.Certificates.{Certificate, kind_of, InRanges, pairs_with, pairs_from}
 use Rattle.misere_theory.proofs.Counting.{bound_whole, bound_part, kind_partial}
 use Rattle.misere_theory.proofs.Written.{is_partial}

@@ -5,7 +5,7 @@ use Rattle.std.proofs.lemmas.Int.{ints}
 use Rattle.std.proofs.lemmas.Bool.{true≢false}
 use native.Mathlib.Decide.{dec_lt}
 use Rattle.counted_claims.specs.Folds.{Fold, whole, taken_of, lesser, rest, is_signed, enlarged}
-use Rattle.counted_claims.proofs.Windows.{same_rest, distance, lt_is_true, lt_is_false}
+use Rattle.counted_claims.proofs.Distances.{same_rest, distance, lt_is_true, lt_is_false}
 
 abbrev pub IsMultiple : ℕ → ℤ → Type 0
 IsMultiple s x = (i : ℕ) × ((j : ℕ) × (x +ℤ pos (i * s) ≡ pos (j * s)))

@@ -1,9 +1,7 @@
 pub mod Vectors
 pub mod Values
-pub mod LocalRule
 pub mod Covering
-pub mod Everywhere
-pub mod Windows
+pub mod Distances
 pub mod Folds
 pub mod Lesser
 pub mod Settled
@@ -15,9 +13,6 @@ pub mod TriedOnTracks
 pub mod NaturalCounts
 pub mod RaysOnTracks
 pub mod Reached
-pub mod Tried
 pub mod Rays
-pub mod RaysInWindows
-pub mod NoQuotient
-pub mod Certificates
+pub mod OnRays
 pub mod Tracked

@@ -4,7 +4,7 @@ use Rattle.std.proofs.lemmas.Int.{ints}
 use Rattle.counted_claims.specs.Counted.{weighed}
 use Rattle.counted_claims.specs.Rays.{along}
 use Rattle.counted_claims.specs.Folds.{Fold, is_signed, in_plane, Track, weights_on}
-use Rattle.counted_claims.proofs.Windows.{lt_is_false}
+use Rattle.counted_claims.proofs.Distances.{lt_is_false}
 
 -- what positions count isn't negative
 abbrev pub AreNatural : List ℤ → Type 0

@@ -9,8 +9,9 @@ use Rattle.misere_theory.specs.Games.{IsP, IsN, IsPosition}
 use Rattle.misere_theory.specs.Quotients.{Monoid, GivesElements}
 use Rattle.misere_theory.proofs.Sums.{IsPosition-append}
 use Rattle.misere_theory.proofs.Outcomes.{determined}
-use Rattle.misere_theory.proofs.Rules.{true_or_false}
-use Rattle.counted_claims.specs.Counted.{CountedClaim, SpeaksOfHeap, elements_of, element, counted, says_p, IsPart, Predicts, AreToldApart, IsInfinite}
+use Rattle.misere_theory.proofs.LocalRule.{true_or_false}
+use Rattle.misere_theory.specs.Parts.{IsPart, AreToldApart, IsInfinite}
+use Rattle.counted_claims.specs.Counted.{CountedClaim, SpeaksOfHeap, elements_of, element, counted, says_p, Predicts}
 use Rattle.counted_claims.specs.Rays.{repeated, counted_on, IsRay}
 use Rattle.counted_claims.proofs.Values.{element_in, element-append}
 
@@ -57,17 +58,17 @@ module _
     absorbed : c.times (element c base) (element c X) ≡ element c base
 
   base_in : element c base < c.order
-  base_in = element_in (SpeaksOfHeap c) code part c m phi_in base ray.bases
+  base_in = element_in (SpeaksOfHeap c) c m phi_in base ray.bases
 
   both_absorbed : (X Y : List ℕ) → Absorbed X → Absorbed Y → Absorbed (X ++ Y)
   both_absorbed X Y a b = record {
     is_in = IsPosition-append (SpeaksOfHeap c) X Y a.is_in b.is_in;
     absorbed =
         ap (c.times (element c base))
-        (element-append (SpeaksOfHeap c) code part c m phi_in X Y a.is_in b.is_in)
+        (element-append (SpeaksOfHeap c) c m phi_in X Y a.is_in b.is_in)
         ∙ sym (m.associates (element c base) (element c X) (element c Y) base_in
-        (element_in (SpeaksOfHeap c) code part c m phi_in X a.is_in)
-        (element_in (SpeaksOfHeap c) code part c m phi_in Y b.is_in))
+        (element_in (SpeaksOfHeap c) c m phi_in X a.is_in)
+        (element_in (SpeaksOfHeap c) c m phi_in Y b.is_in))
         ∙ ap (λ v. c.times v (element c Y)) a.absorbed ∙ b.absorbed;
   }
 
@@ -99,7 +100,7 @@ module _
       (sym (append_assoc (repeated a up) (repeated s up) (repeated b down))
       ∙ ap (λ l. l ++ repeated b down) (repeated-add a s up)))
       ∙ ap (λ f. c.region f (counted_on c base up down (a + s) b))
-      (element-append (SpeaksOfHeap c) code part c m phi_in base
+      (element-append (SpeaksOfHeap c) c m phi_in base
       (repeated (a + s) up ++ repeated b down) ray.bases (ups_and_downs (a + s) b).is_in
       ∙ (ups_and_downs (a + s) b).absorbed)
 

@@ -12,7 +12,7 @@ use Rattle.counted_claims.proofs.Values.{counted-append, counted_are}
 use Rattle.counted_claims.proofs.Folds.{AreTaken, taken_are_taken, taken_by_first, taken_by_second, taken_further, same_left}
 use Rattle.counted_claims.proofs.Lesser.{lesser-moved, no_less}
 use Rattle.counted_claims.proofs.NaturalCounts.{AreNatural, counts_natural, all_in_plane, natural_along}
-use Rattle.counted_claims.proofs.RaysInWindows.{nowhere, along-more, grown, one_up, up_and_down, at_base}
+use Rattle.counted_claims.proofs.OnRays.{nowhere, along-more, grown, one_up, up_and_down, at_base}
 
 module _ (a : Fold) (good : IsFold a) where
   module _

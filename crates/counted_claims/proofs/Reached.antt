@@ -6,7 +6,7 @@ use Rattle.std.proofs.lemmas.Int.{ints}
 use Rattle.counted_claims.specs.Counted.{SpeaksOfHeap, counted}
 use Rattle.counted_claims.specs.Places.{plus, weight_of, ArePossible}
 use Rattle.counted_claims.specs.Folds.{is_signed, IsFold, ArePeriods, place_down, place_up, finer, all_finer, folded, in_plane, Track, TrackedClaim, folds_of, weights_on, claim_on_tracks, finer_folds, finest_folds, possible_on, AreFolds, IsPlaceAfter, ArePlacesAfter, IsReach}
-use Rattle.counted_claims.proofs.Windows.{lt_is_false}
+use Rattle.counted_claims.proofs.Distances.{lt_is_false}
 use Rattle.counted_claims.proofs.AllTracks.{first_fold, first_high}
 use Rattle.counted_claims.proofs.FewPlaces.{both_true, not_true}
 use Rattle.counted_claims.proofs.Onward.{onward}

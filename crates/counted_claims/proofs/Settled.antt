@@ -5,7 +5,7 @@ use Rattle.std.proofs.lemmas.Int.{ints}
 use Rattle.std.proofs.lemmas.Bool.{true≢false}
 use native.Mathlib.Decide.{dec_lt}
 use Rattle.counted_claims.specs.Folds.{Fold, is_signed, IsFold, IsPeriod, taken_of, lesser, taken, rest, place_down, place_up, enlarged}
-use Rattle.counted_claims.proofs.Windows.{lt_is_false}
+use Rattle.counted_claims.proofs.Distances.{lt_is_false}
 use Rattle.counted_claims.proofs.Folds.{AreTaken, taken_are_taken, lesser_is, taken_by_first, taken_by_second, taken_further, same_left, left_alone, left_above, kind_kept}
 use Rattle.counted_claims.proofs.Lesser.{lesser-moved, no_less, no_more}
 

@@ -1,6 +1,6 @@
 -- Counts are added one by one, in any order.
 -- By induction on the lists, with the laws of integers.
-use Rattle.std.proofs.Common.{◌≡◌, ℕ, ℤ, ◌+ℤ◌, ◌-ℤ◌, List, [], ◌∷◌, ◌++◌, map, length, refl, sym, ◌∙◌, ap, ap₂, arith}
+use Rattle.std.proofs.Common.{◌≡◌, ℕ, zero, suc, ℤ, pos, ◌+ℤ◌, ◌-ℤ◌, List, [], ◌∷◌, ◌++◌, map, length, refl, sym, ◌∙◌, ap, ap₂, arith}
 use Rattle.std.proofs.lemmas.Int.{ints}
 use Rattle.counted_claims.specs.Counted.{weighed}
 use Rattle.counted_claims.specs.Places.{plus}
@@ -42,11 +42,23 @@ pub mapped-plus : {A : Type 0} (f g h : A → ℤ) (ws : List A) → ((w : A) �
 mapped-plus f g h [] e = refl
 mapped-plus f g h (w ∷ ws) e = ap₂ (λ a l. a ∷ l) (e w) (mapped-plus f g h ws e)
 
-pub length-plus : {A : Type 0} (ws : List A) (f : A → ℤ) (v : List ℤ) → length v ≡ length ws
-    → length (plus (map f ws) v) ≡ length ws
-length-plus [] f v l = refl
-length-plus (w ∷ ws) f [] l = absurd (omega arith)
-length-plus (w ∷ ws) f (x ∷ v) l = omega (arith, length-plus ws f v (omega arith))
+pub length-plus : (v w : List ℤ) (n : ℕ) → length v ≡ n → length w ≡ n → length (plus v w) ≡ n
+length-plus [] w n p q = p
+length-plus (x ∷ v) [] n p q = absurd (omega arith)
+length-plus (x ∷ v) (y ∷ w) zero p q = absurd (omega arith)
+length-plus (x ∷ v) (y ∷ w) (suc n) p q =
+    omega (arith, length-plus v w n (omega arith) (omega arith))
+
+-- zeros change nothing
+no_more : (x : ℤ) → pos 0 +ℤ x ≡ x
+no_more x = omega (arith, ints)
+
+pub zeros-plus : {A : Type 0} (ws : List A) (v : List ℤ) → length v ≡ length ws
+    → plus (map (λ w. pos 0) ws) v ≡ v
+zeros-plus [] [] l = refl
+zeros-plus [] (x ∷ v) l = absurd (omega arith)
+zeros-plus (w ∷ ws) [] l = absurd (omega arith)
+zeros-plus (w ∷ ws) (x ∷ v) l = ap₂ (λ a l. a ∷ l) (no_more x) (zeros-plus ws v (omega arith))
 
 pub difference : (x y : ℤ) → y ≡ x +ℤ (y -ℤ x)
 difference x y = omega (arith, ints)

@@ -1,9 +1,9 @@
 -- What a certificate with counters claims of the game of some heaps: elements of a finite monoid, and
 -- beside them counters, which are sums of weights of heaps and may be any integers. After Plambeck and
 -- Siegel's misère quotients; the counters are this project's own.
-use Rattle.std.specs.Prelude.{◌≡◌, ℕ, ◌<◌, ℤ, pos, ◌+ℤ◌, ◌⊎◌, ◌↔◌, Bool, true, false, List, [], ◌∷◌, ◌++◌, map}
-use Rattle.misere_theory.specs.Games.{HeapOption, IsP, IsN, IsPosition}
+use Rattle.std.specs.Prelude.{◌≡◌, ℕ, ℤ, pos, ◌+ℤ◌, Bool, true, false, List, [], ◌∷◌, map}
 use Rattle.misere_theory.specs.Quotients.{Claim, value}
+use Rattle.misere_theory.specs.Labels.{PredictsOutcomes}
 
 -- The heaps of which it speaks; a product on the elements 0 to order - 1 and an element for each heap;
 -- for each counter a weight of each heap; and of which elements with which counts the positions are P.
@@ -42,22 +42,4 @@ says_p c X = c.region (element c X) (counted c X)
 
 -- It says so of the P-positions of its heaps, and of no others of them.
 abbrev pub Predicts : List ℕ → CountedClaim → Type 0
-Predicts code c =
-    (X : List ℕ) → IsPosition (SpeaksOfHeap c) X → IsP code X ↔ (says_p c X ≡ true)
-
--- No option of one of these heaps has another heap, so that they make a game.
-abbrev pub IsPart : (ℕ → Type 0) → List ℕ → Type 0
-IsPart heap code = (n : ℕ) (H : List ℕ) → heap n → HeapOption code n H → IsPosition heap H
-
--- Beside some position of these heaps one of the two is a P-position, and the other an N-position.
-abbrev pub AreToldApart : (ℕ → Type 0) → List ℕ → List ℕ → List ℕ → Type 0
-AreToldApart heap code X Y =
-    (Z : List ℕ) × IsPosition heap Z
-    × ((IsP code (X ++ Z) × IsN code (Y ++ Z)) ⊎ (IsN code (X ++ Z) × IsP code (Y ++ Z)))
-
--- There are positions, one for each number, of which each two are told apart: the game of these heaps
--- has an infinite misère quotient.
-abbrev pub IsInfinite : (ℕ → Type 0) → List ℕ → Type 0
-IsInfinite heap code =
-    (X : ℕ → List ℕ) × ((n : ℕ) → IsPosition heap (X n))
-    × ((m n : ℕ) → m < n → AreToldApart heap code (X m) (X n))
+Predicts code c = PredictsOutcomes (SpeaksOfHeap c) code (says_p c)

@@ -1,7 +1,6 @@
 pub mod Counted
 pub mod Places
-pub mod Windows
+pub mod Counts
 pub mod Folds
 pub mod Rays
-pub mod Certificates
 pub mod Tracked

@@ -117,11 +117,3 @@ ChangesObey code c heap place tried possible kept =
     → IsTriedAt c place tried possible p v
     → c.region (c.times (c.phi n) p.value) (plus (weight_of c n) v) ≡ true
     → c.region (c.times h p.value) (plus (plus (weight_of c n) v) e) ≡ false
-
--- The same beside every element, whatever the counts come to. It asks more: of elements and counts that
--- no position has together.
-abbrev pub ChangesObeyEverywhere : List ℕ → CountedClaim → (ℕ → Type 0) → (List ℤ → List ℤ) → Type 0
-ChangesObeyEverywhere code c heap tried =
-    (n h z : ℕ) (e v : List ℤ) → heap n → IsHeapChange code c n h e → z < c.order → AreCounts c v
-    → tried v ≡ v → c.region (c.times (c.phi n) z) v ≡ true
-    → c.region (c.times h z) (plus v e) ≡ false

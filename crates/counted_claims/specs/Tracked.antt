@@ -1,7 +1,8 @@
 -- The numbers of a certificate with tracks, what it claims, and when it is right. This project's own.
 use Rattle.std.specs.Prelude.{ℕ, ◌+◌, ◌-◌, ◌*◌, min, ℤ, nat_abs, Bool, false, List, [], ◌∷◌, map, slice_index, slice_index_or}
 use Rattle.misere_theory.specs.Quotients.{Monoid, GivesElements}
-use Rattle.counted_claims.specs.Counted.{SpeaksOfHeap, elements_of, IsPart, Predicts, IsInfinite}
+use Rattle.misere_theory.specs.Parts.{IsPart, IsInfinite}
+use Rattle.counted_claims.specs.Counted.{SpeaksOfHeap, elements_of, Predicts}
 use Rattle.counted_claims.specs.Folds.{Fold, Track, TrackedClaim, claim_on_tracks}
 
 -- A track's fold, and its downs and ups of each heap 1, 2, ..

@@ -5,10 +5,9 @@
 //! |---|---|
 //! | `specs/Counted` | claims with counters, when they are right, and what an infinite quotient is |
 //! | `specs/Places` | what is tested of a claim: states, covers, closed lists |
-//! | `specs/Windows` | the windows in which counts are told apart, so that there are finitely many cells |
+//! | `specs/Counts` | elements and counts as labels |
 //! | `specs/Folds` | folds of two counts at once to a place, and finer ones, so that there are finitely many places |
 //! | `specs/Rays` | when a claim shows an infinite quotient |
-//! | `specs/Certificates` | the numbers of a certificate with counters, and when it is accepted |
 //! | `specs/Tracked` | the numbers of a certificate with tracks, and when it is accepted |
 //! | `src/` | the laws |
 //! | `proofs/` | the lemmas, and beside them a folder for each law |
@@ -16,20 +15,26 @@
 
 ghost use Rattle.std.specs.Prelude.{◌≡◌, ◌<◌, ◌≤◌, ◌⊎◌, ◌++◌, ℕ, ◌*◌, ℤ, Bool, true, List, length, Contains};
 ghost use Rattle.std.specs.List.{AllByRecursion};
-ghost use Rattle.misere_theory.specs.Games.{IsHeapUpTo};
-ghost use Rattle.misere_theory.specs.Kinds.{IsHeapIn};
-ghost use Rattle.misere_theory.specs.Quotients.{Claim, Monoid, GivesElements, Represents};
+ghost use Rattle.misere_theory.specs.Quotients.{Monoid, GivesElements};
 ghost use Rattle.misere_theory.specs.Certificates.{Certificate, Accepted, kind_of};
-ghost use Rattle.counted_claims.specs.Counted.{CountedClaim, SpeaksOfHeap, elements_of, IsPart, Predicts, AreToldApart, IsInfinite};
-ghost use Rattle.counted_claims.specs.Places.{plus, weight_of, AreCounts, State, AreTried, ArePossible, AreClosed, StatesObey, ChangesObey, ChangesObeyEverywhere};
-ghost use Rattle.counted_claims.specs.Windows.{Window, cells, AreWindows};
+ghost use Rattle.misere_theory.specs.Parts.{IsPart, AreToldApart, IsInfinite};
+ghost use Rattle.counted_claims.specs.Counted.{CountedClaim, SpeaksOfHeap, elements_of, element, counted, Predicts};
+ghost use Rattle.counted_claims.specs.Places.{plus, weight_of, AreCounts, State, AreTried, ArePossible, AreClosed, StatesObey, ChangesObey};
+ghost use Rattle.misere_theory.specs.Labels.{label_of, AreLabels};
+ghost use Rattle.counted_claims.specs.Counts.{over_counts, IsCountLabel};
 ghost use Rattle.counted_claims.specs.Folds.{Fold, IsFold, ArePeriods, AreBelowTops, all_finer, folded, in_plane, TrackedClaim, claim_on_tracks, finer_folds, finest_folds, possible_on, AreFolds, ArePlacesAfter, folds_of, IsReach, IsRayOnTracks};
-ghost use Rattle.counted_claims.specs.Certificates.{CountedCertificate, windows_of, counted_claim_of, HasWindows, AcceptedCounted};
 ghost use Rattle.counted_claims.specs.Tracked.{TrackedCertificate, tracked_claim_of, AcceptedTracked};
-ghost use Rattle.counted_claims.specs.Rays.{repeated, IsRay, IsRayInWindows};
+ghost use Rattle.counted_claims.specs.Rays.{repeated, IsRay};
 
-/// What is tested of a claim with counters makes it right of each position of its heaps. A test of the
-/// changes beside every element, at all counts, is more than is needed.
+/// A claim with counters is a claim over labels, which are an element and a count for each counter.
+pub fn counts_are_labels()
+    ensures labels { (c : CountedClaim) (X : List ℕ)
+        → label_of (over_counts c) X ≡ (element c X, counted c X) }
+    ensures monoid { (c : CountedClaim) → Monoid c.order c.times
+        → AreLabels (IsCountLabel c) (over_counts c).one (over_counts c).times }
+{}
+
+/// What is tested of a claim with counters makes it right of each position of its heaps.
 pub fn tested_claims_predict()
     ensures right { (code : List ℕ) (c : CountedClaim) (place tried : List ℤ → List ℤ)
         (possible : ℕ → List ℤ → Bool) (kept : List State)
@@ -42,12 +47,6 @@ pub fn tested_claims_predict()
         → StatesObey c place tried possible kept
         → ChangesObey code c (SpeaksOfHeap c) place tried possible kept
         → Predicts code c }
-    ensures everywhere { (code : List ℕ) (c : CountedClaim) (place tried : List ℤ → List ℤ)
-        (possible : ℕ → List ℤ → Bool) (kept : List State)
-        → AreTried code c (SpeaksOfHeap c) place tried possible
-        → ((p : State) → Contains kept p → p.value < c.order)
-        → ChangesObeyEverywhere code c (SpeaksOfHeap c) tried
-        → ChangesObey code c (SpeaksOfHeap c) place tried possible kept }
 {}
 
 /// Of the positions of a ray, which are a base and any number of ups, each two are told apart, so that the
@@ -68,34 +67,6 @@ pub fn rays_are_told_apart()
         → Predicts code c
         → IsRay c base up down step far
         → IsInfinite (SpeaksOfHeap c) code }
-{}
-
-/// If the heaps of a claim have an infinite misère quotient, no finite monoid is the quotient of a game
-/// that has these heaps: so no full certificate of the code is accepted, and no partial one that goes as
-/// far as they do.
-pub fn infinite_parts_have_no_finite_quotient()
-    ensures claims { (M : ℕ) (code : List ℕ) (c : CountedClaim) (d : Claim)
-        → IsInfinite (SpeaksOfHeap c) code
-        → ((n : ℕ) → SpeaksOfHeap c n → IsHeapIn M n)
-        → Represents (IsHeapIn M) code d → ⊥ }
-    ensures certificates { (M : ℕ) (c : CountedClaim) (d : Certificate)
-        → IsInfinite (SpeaksOfHeap c) d.code
-        → ((n : ℕ) → SpeaksOfHeap c n → IsHeapUpTo M n)
-        → (kind_of d ≡ 0) ⊎ (M ≤ kind_of d)
-        → Accepted d → ⊥ }
-{}
-
-/// Counts may be tried at their cells in wide windows, and a ray is seen where it is beyond the windows: so
-/// the tests are finitely many.
-pub fn windows_are_enough()
-    ensures tried { (code : List ℕ) (c : CountedClaim) (place : List ℤ → List ℤ)
-        (possible : ℕ → List ℤ → Bool) (ks ps ws vs : List Window) (bounds weights : List ℕ)
-        → AreWindows code c (SpeaksOfHeap c) place possible ks ps ws vs bounds weights
-        → AreTried code c (SpeaksOfHeap c) place (cells vs) possible }
-    ensures rays { (c : CountedClaim) (base up down : List ℕ) (step far : ℕ) (on : List ℤ → Bool)
-        (ks os vs : List Window) (bounds : List ℕ)
-        → IsRayInWindows c base up down step far on ks os vs bounds
-        → IsRay c base up down step far }
 {}
 
 /// Two counts may be folded at once: the place of a finer fold settles that behind each change, also whether
@@ -162,34 +133,6 @@ pub fn tested_tracked_certificates_are_accepted()
         → IsRayOnTracks (tracked_claim_of k) base up down step far
         → AcceptedTracked k }
     ensures excluded { (k : TrackedCertificate) (d : Certificate) → AcceptedTracked k → d.code ≡ k.code
-        → (kind_of d ≡ 0) ⊎ (length k.heaps ≤ kind_of d)
-        → Accepted d → ⊥ }
-{}
-
-/// What is tested of a certificate with counters makes it accepted: its cells, the tests of a claim, and a
-/// ray. Its code then has no accepted certificate without counters, neither a full one nor a partial one
-/// that goes as far.
-pub fn tested_counted_certificates_are_accepted()
-    ensures cells { (k : CountedCertificate) → HasWindows k → (f : ℕ) (v : List ℤ)
-        → (counted_claim_of k).region f (cells (windows_of k) v) ≡ (counted_claim_of k).region f v }
-    ensures accepted { (k : CountedCertificate) (place : List ℤ → List ℤ)
-        (possible : ℕ → List ℤ → Bool) (ps ws vs : List Window) (bounds weights : List ℕ)
-        (kept : List State) (base up down : List ℕ) (step far : ℕ) (on : List ℤ → Bool)
-        (os us : List Window) (moves : List ℕ)
-        → IsPart (SpeaksOfHeap (counted_claim_of k)) k.code
-        → Monoid k.order (counted_claim_of k).times
-        → GivesElements (SpeaksOfHeap (counted_claim_of k)) (elements_of (counted_claim_of k))
-        → AreWindows k.code (counted_claim_of k) (SpeaksOfHeap (counted_claim_of k)) place possible
-        (windows_of k) ps ws vs bounds weights
-        → ArePossible (counted_claim_of k) (SpeaksOfHeap (counted_claim_of k)) (cells vs) possible
-        → AreClosed k.code (counted_claim_of k) (SpeaksOfHeap (counted_claim_of k)) place (cells vs)
-        possible kept
-        → StatesObey (counted_claim_of k) place (cells vs) possible kept
-        → ChangesObey k.code (counted_claim_of k) (SpeaksOfHeap (counted_claim_of k)) place (cells vs)
-        possible kept
-        → IsRayInWindows (counted_claim_of k) base up down step far on (windows_of k) os us moves
-        → AcceptedCounted k }
-    ensures excluded { (k : CountedCertificate) (d : Certificate) → AcceptedCounted k → d.code ≡ k.code
         → (kind_of d ≡ 0) ⊎ (length k.heaps ≤ kind_of d)
         → Accepted d → ⊥ }
 {}

@@ -6,7 +6,8 @@ use Rattle.std.specs.Cmp.Derive.{both_true as into_both}
 use Rattle.std.proofs.lemmas.Bool.Decides.{Decides-int_eq}
 use Rattle.misere_theory.specs.Games.{IsPosition}
 use Rattle.misere_theory.specs.Quotients.{Monoid, GivesElements}
-use Rattle.counted_claims.specs.Counted.{CountedClaim, SpeaksOfHeap, IsPart, elements_of, element, counted}
+use Rattle.misere_theory.specs.Parts.{IsPart}
+use Rattle.counted_claims.specs.Counted.{CountedClaim, SpeaksOfHeap, elements_of, element, counted}
 use Rattle.counted_claims.specs.Places.{plus, weight_of, AreCounts, AreTried, ArePossible}
 use Rattle.counted_claims.proofs.Values.{counted-cons, counted_are, element_in}
 use Rattle.counted_claims.specs.Folds.{folds_of, in_plane, TrackedClaim, claim_on_tracks, folded, finer_folds, finest_folds, possible_on, IsReach}
@@ -143,6 +144,6 @@ module _
       let (a, again) = tries.once (counted c X) (counted_are c X) in
       ap (possible (element c (n ∷ X))) (counted-cons c n X)
       ∙ sym (tries.likely_beside n w.0 (element c (n ∷ X)) (counted c X) (counted_are c X))
-      ∙ likely.step (element c X) n (tried (counted c X)) (element_in heap code part c m phi_in X w.1)
+      ∙ likely.step (element c X) n (tried (counted c X)) (element_in heap c m phi_in X w.1)
       w.0 a again
       (tries.likely (element c X) (counted c X) (counted_are c X) ∙ possible_of X w.1)

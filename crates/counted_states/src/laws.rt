@@ -2,7 +2,8 @@
 ghost use Rattle.std.specs.Prelude.{◌≡◌, ◌<◌, ℕ, ℤ, Bool, true, List};
 ghost use Rattle.misere_theory.specs.Games.{IsPosition};
 ghost use Rattle.misere_theory.specs.Quotients.{Monoid, GivesElements};
-ghost use Rattle.counted_claims.specs.Counted.{CountedClaim, SpeaksOfHeap, element, elements_of, counted, IsPart, Predicts};
+ghost use Rattle.misere_theory.specs.Parts.{IsPart};
+ghost use Rattle.counted_claims.specs.Counted.{CountedClaim, SpeaksOfHeap, element, elements_of, counted, Predicts};
 ghost use Rattle.counted_claims.specs.Places.{ArePossible};
 ghost use Rattle.counted_claims.specs.Folds.{TrackedClaim, claim_on_tracks, folded, finer_folds, finest_folds, possible_on, AreFolds};
 ghost use Rattle.counted_states.specs.Idle.{AreReached};

@@ -1,6 +1,7 @@
 -- What is shown of a claim before its ray is looked at. This project's own.
 use Rattle.misere_theory.specs.Quotients.{GivesElements}
-use Rattle.counted_claims.specs.Counted.{SpeaksOfHeap, elements_of, IsPart, Predicts}
+use Rattle.misere_theory.specs.Parts.{IsPart}
+use Rattle.counted_claims.specs.Counted.{SpeaksOfHeap, elements_of, Predicts}
 use Rattle.tracked_claims.specs.Fields.{Fields}
 use Rattle.tracked_claims.specs.Reads.{claim_in}
 

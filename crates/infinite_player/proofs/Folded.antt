@@ -6,7 +6,7 @@ use Rattle.std.proofs.Math.Nat.{zero-div, zero-mul, mul-zero, le-mul_of_pos_righ
 use native.Mathlib.Decide.{dec_lt}
 use Rattle.counted_claims.specs.Folds.{Fold, is_signed, taken_of, lesser, taken, rest}
 use Rattle.counted_claims.specs.Tracked.{place_count, all_place_count}
-use Rattle.counted_claims.proofs.Windows.{lt_is_true, lt_is_false}
+use Rattle.counted_claims.proofs.Distances.{lt_is_true, lt_is_false}
 use Rattle.counted_claims.proofs.Folds.{lesser_is}
 
 taken_of_others : (s : ℕ) (b : Bool) (d : ℤ) → pos 0 ≤ℤ d → pos (nat_abs d / s * s) ≡ taken_of s b d

@@ -11,7 +11,7 @@ use Rattle.std.specs.List.{zip}
 use Rattle.counted_claims.specs.Tracked.{TrackLine, track_of, places_before, place_number, all_place_count}
 use Rattle.infinite_player.proofs.Folded.{sum_stops, product_stops}
 use Rattle.counted_claims.proofs.Vectors.{weighed-append}
-use Rattle.counted_claims.proofs.Windows.{lt_is_false}
+use Rattle.counted_claims.proofs.Distances.{lt_is_false}
 use Rattle.tracked_claims.specs.Fields.{Fields, pieces, tracks_in}
 use Rattle.tracked_claims.specs.Reads.{claim_in, weight_in, is_inside}
 

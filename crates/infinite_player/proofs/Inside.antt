@@ -5,7 +5,7 @@ use Rattle.misere_theory.specs.Plays.{IsHanded}
 use Rattle.misere_theory.specs.Plays.IsHanded.{AtOnce, Later}
 use Rattle.misere_theory.proofs.Shuffles.{from_permutation, position_shuffled, back}
 use Rattle.misere_theory.proofs.Sums.{move_kept, IsPosition-append}
-use Rattle.counted_claims.specs.Counted.{IsPart}
+use Rattle.misere_theory.specs.Parts.{IsPart}
 
 module _ (heap : ℕ → Type 0) (code : List ℕ) (part : IsPart heap code) where
   pub moved : (X Y : List ℕ) → IsPosition heap X → Move code X Y → IsPosition heap Y

@@ -8,7 +8,7 @@ use Rattle.misere_theory.specs.Games.HeapOption.{Nothing, One, Two, Three}
 use Rattle.misere_theory.specs.Quotients.{Claim, value}
 use Rattle.misere_theory.specs.Pairs.{heap_bound, IsPeriodic, SameHeapPair}
 use Rattle.misere_theory.proofs.Codes.{no_bit_of_zero, no_three}
-use Rattle.misere_theory.proofs.Rules.{true_or_false}
+use Rattle.misere_theory.proofs.LocalRule.{true_or_false}
 
 -- what the bound is, with bit 8 and without
 pub bound_with : (code : List ℕ) (k start period : ℕ) → leaves_three code ≡ true

@@ -1,68 +1,40 @@
 -- A closed set of pairs covers the pair of every position, and the rule need only be tested at its
 -- members.
--- By induction on the position: one heap more, and a member that covers the product.
-use Rattle.std.proofs.Common.{◌≡◌, ℕ, ◌<◌, ◌⊎◌, true, false, List, [], ◌∷◌, ◌++◌, refl, sym, ◌∙◌, ap, subst, inl, inr}
-use Rattle.std.proofs.lemmas.Bool.{true≢false}
-use Rattle.misere_theory.specs.Games.{HeapOption, Move, IsPosition}
-use Rattle.misere_theory.specs.Games.Move.{Here, There}
-use Rattle.misere_theory.specs.Quotients.{Claim, Monoid, GivesElements, value, OptionValue, HeapOptionValue, RuleHolds}
-use Rattle.misere_theory.proofs.Sums.{first_or_rest, no_move_of_none, value_in, value-append, IsKept}
-use Rattle.misere_theory.proofs.Rules.{true_or_false}
+-- The theorem of Covers: a member stands where its value is the position's, and its options are values.
+use Rattle.std.proofs.Common.{◌≡◌, ℕ, ◌<◌, ◌⊎◌, true, false, List, refl, sym, ◌∙◌, ap, ap₂, inl, inr}
+use Rattle.misere_theory.specs.Games.{Move, IsPosition}
+use Rattle.misere_theory.specs.Quotients.{Claim, Monoid, GivesElements, value, HeapOptionValue, RuleHolds}
+use Rattle.misere_theory.specs.Parts.{IsPart}
+use Rattle.misere_theory.specs.Labels.{over_elements}
+use Rattle.misere_theory.proofs.Sums.{value_is, elements_are_labels, value_in, value-append}
+use Rattle.misere_theory.proofs.LabelLaws.{split}
+use Rattle.misere_theory.proofs.Covers.{IsCover, IsCoverBeside, each_covered, each_obeys}
+use Rattle.misere_theory.proofs.Rules.{said, holds}
 
 module _
-    (heap : ℕ → Type 0) (code : List ℕ) (kept : IsKept heap code) (c : Claim)
+    (heap : ℕ → Type 0) (code : List ℕ) (part : IsPart heap code) (c : Claim)
     (m : Monoid c.order c.times)
     (phi_in : GivesElements heap c) where
-  -- a move replaces a factor phi n by the value of an option of n
-  pub record Factored (X Y : List ℕ) : Type 0 where
-    pub part : ℕ
-    pub counts : heap part
-    pub left : List ℕ
-    pub rest : ℕ
-    pub below : rest < c.order
-    pub of_heap : HeapOption code part left
-    pub from : value c X ≡ c.times (c.phi part) rest
-    pub to : value c Y ≡ c.times (value c left) rest
-
-  left_commutes : (x y z : ℕ) → x < c.order → y < c.order → z < c.order
-      → c.times x (c.times y z) ≡ c.times y (c.times x z)
-  left_commutes x y z p q r =
-      sym (m.associates x y z p q r) ∙ ap (λ v. c.times v z) (m.commutes x y p q)
-      ∙ m.associates y x z q p r
-
-  pub factored : {X Y : List ℕ} → Move code X Y → IsPosition heap X → Factored X Y
-  factored (Here {n = n} {X = X} {H = H} o e) p = record {
-    part = n;
-    counts = p.0;
-    left = H;
-    rest = value c X;
-    below = value_in heap c m phi_in X p.1;
-    of_heap = o;
-    from = refl;
-    to = ap (value c) e ∙ value-append heap c m phi_in H X (kept n H p.0 o) p.1;
-  }
-  factored (There {n = n} i e) p = let f = factored i p.1 in record {
-    part = f.part;
-    counts = f.counts;
-    left = f.left;
-    rest = c.times (c.phi n) f.rest;
-    below = m.closed _ _ (phi_in n p.0) f.below;
-    of_heap = f.of_heap;
-    from =
-        ap (c.times (c.phi n)) f.from ∙ left_commutes _ _ _ (phi_in n p.0) (phi_in f.part f.counts)
-        f.below;
-    to = ap (value c) e
-        ∙ (ap (c.times (c.phi n)) f.to ∙ left_commutes _ _ _ (phi_in n p.0)
-        (value_in heap c m phi_in f.left (kept f.part f.left f.counts f.of_heap)) f.below);
-  }
+  -- what is tested beside each element holds of each move
+  never_into : ((n h y : ℕ) → heap n → HeapOptionValue code c n h → y < c.order
+      → c.portion (c.times (c.phi n) y) ≡ true → c.portion (c.times h y) ≡ false)
+      → (X Y : List ℕ) → IsPosition heap X → Move code X Y → c.portion (value c X) ≡ true
+      → c.portion (value c Y) ≡ false
+  never_into elements X Y w i t =
+      let f =
+      split (λ x. x < c.order) (over_elements c) (elements_are_labels c m) heap phi_in code part i w in
+      ap c.portion
+      (sym (value_is c Y) ∙ f.to ∙ ap₂ c.times (value_is c f.left) (value_is c f.others))
+      ∙ elements f.part_heap (value c f.left) (value c f.others) f.in_part (f.left, f.of_heap, refl)
+      (value_in heap c m phi_in f.others f.others_in)
+      (ap c.portion
+      (ap (c.times (c.phi f.part_heap)) (sym (value_is c f.others)) ∙ sym f.from ∙ value_is c X) ∙ t)
 
   -- Members with a value and a set each. Each position has one of its value, whose set is among the
   -- position's and is empty only where that is.
   module _ (I : Type 0) (val : I → ℕ) (Has : I → ℕ → Type 0) where
-    pub record Covers (i : I) (X : List ℕ) : Type 0 where
-      pub same_value : val i ≡ value c X
-      pub among : (e : ℕ) → Has i e → OptionValue code c X e
-      pub some : (Y : List ℕ) → Move code X Y → (e : ℕ) × Has i e
+    abbrev pub Covers : I → List ℕ → Type 0
+    Covers = IsCover heap code I ℕ (λ i X. val i ≡ value c X) Has (λ X Y e. value c Y ≡ e)
 
     -- j covers the product of the member i with the pair of the heap n
     pub record CoversProduct (j i : I) (n : ℕ) : Type 0 where
@@ -73,41 +45,35 @@ module _
       pub some_heap : (h : ℕ) → HeapOptionValue code c n h → (e : ℕ) × Has j e
       pub some_rest : (f : ℕ) → Has i f → (e : ℕ) × Has j e
 
+    beside : (j i : I) (n : ℕ) (X : List ℕ) → heap n → IsPosition heap X → Covers i X
+        → CoversProduct j i n
+        → IsCoverBeside heap code I ℕ (λ i X. val i ≡ value c X) Has (λ X Y e. value c Y ≡ e) j i n X
+    beside j i n X u w k p = record {
+      stands = p.same_value ∙ ap (c.times (c.phi n)) k.stands;
+      among = λ e h. elim (p.among e h) [
+        | inl (v, (H, o, q), d) ↦ inl (
+          H,
+          o,
+          value-append heap c m phi_in H X (part n H u o) w ∙ ap (λ z. c.times z (value c X)) q
+              ∙ ap (c.times v) (sym k.stands) ∙ sym d,
+        )
+        | inr (f, g, d) ↦ inr (f, g, λ Y i q. ap (c.times (c.phi n)) q ∙ sym d)
+      ];
+      some_heap = λ H o. p.some_heap (value c H) (H, o, refl);
+      some_rest = p.some_rest;
+    }
+
     module _
         (start : (i : I) × (val i ≡ 0) × ((e : ℕ) → Has i e → ⊥)) (step : (i : I) (n : ℕ) → heap n
         → (j : I) × CoversProduct j i n) where
+      next : (i : I) (n : ℕ) (X : List ℕ) → heap n → IsPosition heap X → Covers i X
+          → (j : I)
+          × IsCoverBeside heap code I ℕ (λ i X. val i ≡ value c X) Has (λ X Y e. value c Y ≡ e) j i n X
+      next i n X u w k = let (j, p) = step i n u in (j, beside j i n X u w k p)
+
       pub covered : (X : List ℕ) → IsPosition heap X → (i : I) × Covers i X
-      covered [] p0 = let (i, e, none) = start in (
-        i,
-        record {
-          same_value = e;
-          among = λ x h. absurd (none x h);
-          some = λ Y k. absurd (no_move_of_none k);
-        },
-      )
-      covered (n ∷ X) w =
-          let (i, k) = covered X w.1 in
-          let (j, p) = step i n w.0 in (
-            j,
-            record {
-              same_value = p.same_value ∙ ap (c.times (c.phi n)) k.same_value;
-              among = λ e h. elim (p.among e h) [
-                | inl (v, (H, o, q), d) ↦ (
-                  H ++ X,
-                  Here o refl,
-                  value-append heap c m phi_in H X (kept n H w.0 o) w.1
-                      ∙ ap (λ z. c.times z (value c X)) q ∙ ap (c.times v) (sym k.same_value)
-                      ∙ sym d,
-                )
-                | inr (f, g, d) ↦ let (Y, i', q) = k.among f g in
-                    (n ∷ Y, There i' refl, ap (c.times (c.phi n)) q ∙ sym d)
-              ];
-              some = λ Y i'. elim (first_or_rest i') [
-                | inl (H, o, d) ↦ p.some_heap (value c H) (H, o, refl)
-                | inr (X', q, d) ↦ let (f, g) = k.some X' q in p.some_rest f g
-              ];
-            },
-          )
+      covered =
+          each_covered heap code I ℕ (λ i X. val i ≡ value c X) Has (λ X Y e. value c Y ≡ e) start next
 
       -- the rule at each position, from the rule at the members outside the portion and a check by
       -- elements inside it
@@ -119,18 +85,9 @@ module _
           → c.portion (c.times (c.phi n) y) ≡ true → c.portion (c.times h y) ≡ false)
           → (X : List ℕ) → IsPosition heap X → RuleHolds code c X
       rule_from_members outside inside elements X w =
-          let (i, k) = covered X w in (
-            λ t. let (e, h) = inside i (ap c.portion k.same_value ∙ t) in (
-              (e, k.among e h),
-              λ x o. let f = factored o.1 w in
-                  subst (λ v. c.portion v ≡ false) (sym f.to ∙ o.2)
-                  (elements f.part (value c f.left) f.rest f.counts (f.left, f.of_heap, refl)
-                  f.below (ap c.portion (sym f.from) ∙ t)),
-            ),
-            λ r. let ((x, o), all) = r in elim (true_or_false (c.portion (value c X))) [
-              | inl t ↦ t
-              | inr out ↦ let (e, h) = k.some o.0 o.1 in
-                  let (f, g, t) = outside i (ap c.portion k.same_value ∙ out) e h in
-                  absurd (true≢false (sym t ∙ all f (k.among f g)))
-            ],
-          )
+          holds code c X
+          (each_obeys heap code I ℕ (λ i X. val i ≡ value c X) Has (λ X Y e. value c Y ≡ e) start next
+          (said code c)
+          (λ i X w k f e h. let (x, g, t) = outside i (ap c.portion k.stands ∙ f) e h in
+          (x, g, λ Y j q. ap c.portion q ∙ t))
+          (λ i X w k t. inside i (ap c.portion k.stands ∙ t)) (never_into elements) X w)

@@ -5,7 +5,8 @@ use Rattle.misere_theory.specs.Games.{IsHeap, IsHeapUpTo, IsPosition}
 use Rattle.misere_theory.specs.Quotients.{Claim, Represents, ReachesMoreThan}
 use Rattle.misere_theory.specs.Pairs.{heap_bound, SameHeapPair}
 use Rattle.misere_theory.specs.Kinds.{IsHeapIn, kind_by, IsPeriodicIn, bound_in}
-use Rattle.misere_theory.proofs.Sums.{heaps_up_to_kept, IsKept}
+use Rattle.misere_theory.specs.Parts.{IsPart}
+use Rattle.misere_theory.proofs.Sums.{heaps_up_to_kept}
 use Rattle.misere_theory.proofs.Bound.{heap_shown}
 
 -- a position of heaps that count is one where more count
@@ -51,7 +52,7 @@ pub part_from : (M n : ℕ) → IsHeapUpTo M n → IsHeapIn M n
 part_from M n h = (h.0, λ _. h.1)
 
 -- what is left of a heap is no larger
-pub kept_in : (M : ℕ) (code : List ℕ) → IsKept (IsHeapIn M) code
+pub kept_in : (M : ℕ) (code : List ℕ) → IsPart (IsHeapIn M) code
 kept_in M code n H h o =
     position_where (IsHeapUpTo n) (IsHeapIn M)
     (λ a p. (p.0, λ l. let i = h.1 l in let k = p.1 in omega arith)) H

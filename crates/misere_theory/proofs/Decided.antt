@@ -12,7 +12,8 @@ use Rattle.misere_theory.specs.Quotients.{Claim, Monoid, GivesElements, value, O
 use Rattle.misere_theory.specs.Pairs.{SameHeapPair}
 use Rattle.misere_theory.specs.Kinds.{IsHeapIn, IsPeriodicIn, bound_in}
 use Rattle.misere_theory.proofs.Basics.{either_way}
-use Rattle.misere_theory.proofs.Sums.{first_or_rest, value-append, IsPosition-append, IsKept}
+use Rattle.misere_theory.specs.Parts.{IsPart}
+use Rattle.misere_theory.proofs.Sums.{first_or_rest, value-append, IsPosition-append}
 use Rattle.misere_theory.proofs.Outcomes.{some_or_all_below}
 use Rattle.misere_theory.proofs.Counting.{position_where, kept_in, bound_counts, shown_in}
 use Rattle.misere_theory.proofs.PairCounts.{same_pair_dec, reach_bound}
@@ -96,7 +97,7 @@ position_before heap [] S p = tt
 position_before heap (n ∷ P) S p = (p.0, position_before heap P S p.1)
 
 module _
-    (heap : ℕ → Type 0) (code : List ℕ) (inside : IsKept heap code) (c : Claim)
+    (heap : ℕ → Type 0) (code : List ℕ) (inside : IsPart heap code) (c : Claim)
     (m : Monoid c.order c.times)
     (phi_in : GivesElements heap c) where
   cons_option : (n i : ℕ) (X Y : List ℕ) → heap n → heap i → IsPosition heap X

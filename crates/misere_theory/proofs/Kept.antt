@@ -2,7 +2,8 @@
 -- The theorem of Closures, with each heap shown by one up to B that has its pair.
 use Rattle.std.proofs.Common.{◌≡◌, ℕ, ◌<◌, true, false, List, refl, sym, ◌∙◌, ap, inl, inr, Contains}
 use Rattle.misere_theory.specs.Games.{IsHeapUpTo, IsPosition}
-use Rattle.misere_theory.proofs.Sums.{heaps_up_to_kept, IsKept}
+use Rattle.misere_theory.specs.Parts.{IsPart}
+use Rattle.misere_theory.proofs.Sums.{heaps_up_to_kept}
 use Rattle.misere_theory.specs.Quotients.{Claim, Monoid, HeapOptionValue, RuleHolds, GivesElements}
 use Rattle.misere_theory.specs.Pairs.{Pair, Covers, IsClosed, KeptObey, ElementsObey, SameHeapPair}
 use Rattle.misere_theory.specs.Kinds.{IsHeapIn, IsPeriodicIn, bound_in}
@@ -11,7 +12,7 @@ use Rattle.misere_theory.proofs.Closures as closures
 
 -- each heap of the game has the pair of one of the heaps that the list is closed under
 module _
-    (heap shown : ℕ → Type 0) (code : List ℕ) (inside : IsKept heap code) (c : Claim)
+    (heap shown : ℕ → Type 0) (code : List ℕ) (inside : IsPart heap code) (c : Claim)
     (m : Monoid c.order c.times)
     (phi_in : GivesElements heap c)
     (show : (n : ℕ) → heap n → (b : ℕ) × shown b × SameHeapPair code c n b)
@@ -56,7 +57,7 @@ module _
       in (
         i.0,
         i.1,
-        record { same_value = w.same_value; among = w.among; some = λ x o. w.some o.0 o.1 },
+        record { same_value = w.stands; among = w.among; some = λ x o. w.some o.0 o.1 },
       )
 
   every_heap : ElementsObey code c shown → (n h y : ℕ) → heap n → HeapOptionValue code c n h

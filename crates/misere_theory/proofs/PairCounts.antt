@@ -9,7 +9,8 @@ use native.Mathlib.Decide.{ℕ_discrete}
 use Rattle.std.proofs.lemmas.List.Elements.{recursion_from_All, All-map}
 use Rattle.misere_theory.specs.Games.{IsPosition}
 use Rattle.misere_theory.specs.Quotients.{Claim, Monoid, GivesElements, value, OptionValue, SamePair, ReachesMoreThan}
-use Rattle.misere_theory.proofs.Sums.{value_in, IsKept, move_kept}
+use Rattle.misere_theory.specs.Parts.{IsPart}
+use Rattle.misere_theory.proofs.Sums.{value_in, move_kept}
 use Rattle.misere_theory.proofs.Outcomes.{some_or_all_moves}
 use Rattle.std.specs.Cmp.{both_ways}
 use Rattle.misere_theory.proofs.Basics.{neither_smaller}
@@ -64,7 +65,7 @@ digits_same u v w m n h k e =
     (d, let s = ap (λ z. z * w) d in omega arith)
 
 module _
-    (heap : ℕ → Type 0) (code : List ℕ) (kept : IsKept heap code) (c : Claim)
+    (heap : ℕ → Type 0) (code : List ℕ) (kept : IsPart heap code) (c : Claim)
     (m : Monoid c.order c.times)
     (phi_in : GivesElements heap c) where
   -- whether x is the value of an option of X

@@ -3,10 +3,11 @@
 use Rattle.std.proofs.Common.{◌≡◌, ℕ, ◌↔◌, List, ◌++◌, refl, sym, ◌∙◌, ap, inl, inr}
 use Rattle.misere_theory.specs.Games.{IsPosition}
 use Rattle.misere_theory.specs.Quotients.{Claim, Monoid, GivesElements, value, OptionValue, SumOptionValue}
-use Rattle.misere_theory.proofs.Sums.{value-append, sum_moves, move_on_left, move_on_right, IsKept, move_kept}
+use Rattle.misere_theory.specs.Parts.{IsPart}
+use Rattle.misere_theory.proofs.Sums.{value-append, sum_moves, move_on_left, move_on_right, move_kept}
 
 module _
-    (heap : ℕ → Type 0) (code : List ℕ) (kept : IsKept heap code) (c : Claim)
+    (heap : ℕ → Type 0) (code : List ℕ) (kept : IsPart heap code) (c : Claim)
     (m : Monoid c.order c.times)
     (phi_in : GivesElements heap c) where
   pub pair_of_sum : (X Y : List ℕ) → IsPosition heap X → IsPosition heap Y

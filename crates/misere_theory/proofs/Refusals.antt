@@ -6,7 +6,8 @@ use Rattle.misere_theory.specs.Games.{IsPosition}
 use Rattle.misere_theory.specs.Games.Move.{Here}
 use Rattle.misere_theory.specs.Quotients.{Claim, Monoid, GivesElements, value, HeapOptionValue, RuleFails}
 use Rattle.misere_theory.specs.Pairs.{Pair, IsPairOf}
-use Rattle.misere_theory.proofs.Sums.{value-append, IsKept}
+use Rattle.misere_theory.specs.Parts.{IsPart}
+use Rattle.misere_theory.proofs.Sums.{value-append}
 
 module _ (code : List ℕ) (c : Claim) (p : Pair) (X : List ℕ) (is : IsPairOf code c p X) where
   -- a member outside the portion with options, none of them in it
@@ -28,7 +29,7 @@ module _ (code : List ℕ) (c : Claim) (p : Pair) (X : List ℕ) (is : IsPairOf 
       inl (ap c.portion (sym is.same_value) ∙ t, inl (λ x o. none x ((is.options x).1 o)))
 
 module _
-    (heap : ℕ → Type 0) (code : List ℕ) (kept : IsKept heap code) (c : Claim)
+    (heap : ℕ → Type 0) (code : List ℕ) (kept : IsPart heap code) (c : Claim)
     (m : Monoid c.order c.times)
     (phi_in : GivesElements heap c) where
   -- an option of a heap that leads from the portion into it, beside the value of some position

@@ -1,10 +1,12 @@
--- Moves, sizes and values of a sum of positions.
+-- Moves, sizes, labels and values of a sum of positions.
 -- By induction on the heaps of the first part.
-use Rattle.std.proofs.Common.{◌≡◌, ℕ, ◌+◌, ◌-◌, ◌*◌, ◌<◌, ◌⊎◌, List, [], ◌∷◌, ◌++◌, refl, sym, ◌∙◌, ap, inl, inr, append_assoc, arith}
+use Rattle.std.proofs.Common.{◌≡◌, ℕ, ◌+◌, ◌-◌, ◌*◌, ◌<◌, ◌⊎◌, List, [], ◌∷◌, ◌++◌, refl, sym, ◌∙◌, ap, ap₂, subst, inl, inr, append_assoc, arith}
 use Rattle.misere_theory.specs.Games.{HeapOption, Move, measure, IsPosition, IsHeap, IsHeapUpTo}
 use Rattle.misere_theory.specs.Games.HeapOption.{Nothing, One, Two, Three}
 use Rattle.misere_theory.specs.Games.Move.{Here, There}
 use Rattle.misere_theory.specs.Quotients.{Claim, Monoid, GivesElements, value}
+use Rattle.misere_theory.specs.Parts.{IsPart}
+use Rattle.misere_theory.specs.Labels.{LabelClaim, label_of, AreLabels, over_elements}
 
 -- a move in a position with a first heap is in that heap or in the others
 pub first_or_rest : {code : List ℕ} {n : ℕ} {X Y : List ℕ} → Move code (n ∷ X) Y
@@ -60,17 +62,13 @@ pub IsPosition-append : (heap : ℕ → Type 0) (X Y : List ℕ) → IsPosition 
 IsPosition-append heap [] Y p q = q
 IsPosition-append heap (n ∷ X) Y p q = (p.0, IsPosition-append heap X Y p.1 q)
 
--- an option of a heap that counts has heaps that count
-abbrev pub IsKept : (ℕ → Type 0) → List ℕ → Type 0
-IsKept heap code = (n : ℕ) (H : List ℕ) → heap n → HeapOption code n H → IsPosition heap H
-
-pub heaps_kept : (code : List ℕ) → IsKept IsHeap code
+pub heaps_kept : (code : List ℕ) → IsPart IsHeap code
 heaps_kept code n _ h (Nothing j p e b) = tt
 heaps_kept code n _ h (One j a p q e b) = (q, tt)
 heaps_kept code n _ h (Two j a b p q e c) = (p, (q, tt))
 heaps_kept code n _ h (Three j a b c p q r e s) = (p, (q, (r, tt)))
 
-pub heaps_up_to_kept : (M : ℕ) (code : List ℕ) → IsKept (IsHeapUpTo M) code
+pub heaps_up_to_kept : (M : ℕ) (code : List ℕ) → IsPart (IsHeapUpTo M) code
 heaps_up_to_kept M code n _ h (Nothing j p e b) = tt
 heaps_up_to_kept M code n _ h (One j a p q e b) = ((q, let k = h.1 in omega arith), tt)
 heaps_up_to_kept M code n _ h (Two j a b p q e c) =
@@ -81,21 +79,50 @@ heaps_up_to_kept M code n _ h (Three j a b c p q r e s) = (
 )
 
 -- a move leads from a position to a position
-pub move_kept : (heap : ℕ → Type 0) (code : List ℕ) → IsKept heap code → {X Y : List ℕ}
+pub move_kept : (heap : ℕ → Type 0) (code : List ℕ) → IsPart heap code → {X Y : List ℕ}
     → Move code X Y → IsPosition heap X
     → IsPosition heap Y
 move_kept heap code k (Here {n = n} {X = X} {H = H} o e) p =
     rw e (IsPosition-append heap H X (k n H p.0 o) p.1)
 move_kept heap code k (There m e) p = rw e (p.0, move_kept heap code k m p.1)
 
+module _
+    {L : Type 0} (IsLabel : L → Type 0) (c : LabelClaim L) (m : AreLabels IsLabel c.one c.times)
+    (heap : ℕ → Type 0) (labels : (n : ℕ) → heap n → IsLabel (c.label n)) where
+  pub label_in : (X : List ℕ) → IsPosition heap X → IsLabel (label_of c X)
+  label_in [] p = m.some
+  label_in (n ∷ X) p = m.closed _ _ (labels n p.0) (label_in X p.1)
+
+  pub label-append : (X Y : List ℕ) → IsPosition heap X → IsPosition heap Y
+      → label_of c (X ++ Y) ≡ c.times (label_of c X) (label_of c Y)
+  label-append [] Y p q = sym (m.identity _ (label_in Y q))
+  label-append (n ∷ X) Y p q = ap (c.times (c.label n)) (label-append X Y p.1 q)
+      ∙ sym (m.associates _ _ _ (labels n p.0) (label_in X p.1) (label_in Y q))
+
+-- values are labels
+pub value_is : (c : Claim) (X : List ℕ) → label_of (over_elements c) X ≡ value c X
+value_is c [] = refl
+value_is c (n ∷ X) = ap (c.times (c.phi n)) (value_is c X)
+
+pub elements_are_labels : (c : Claim) → Monoid c.order c.times → AreLabels (λ x. x < c.order) 0 c.times
+elements_are_labels c m = record {
+  some = m.some;
+  closed = m.closed;
+  identity = m.identity;
+  commutes = m.commutes;
+  associates = m.associates;
+}
+
 module _ (heap : ℕ → Type 0) (c : Claim) (m : Monoid c.order c.times)
     (phi_in : GivesElements heap c) where
   pub value_in : (X : List ℕ) → IsPosition heap X → value c X < c.order
-  value_in [] p = m.some
-  value_in (n ∷ X) p = m.closed _ _ (phi_in n p.0) (value_in X p.1)
+  value_in X p =
+      subst (λ v. v < c.order) (value_is c X)
+      (label_in (λ x. x < c.order) (over_elements c) (elements_are_labels c m) heap phi_in X p)
 
   pub value-append : (X Y : List ℕ) → IsPosition heap X → IsPosition heap Y
       → value c (X ++ Y) ≡ c.times (value c X) (value c Y)
-  value-append [] Y p q = sym (m.identity _ (value_in Y q))
-  value-append (n ∷ X) Y p q = ap (c.times (c.phi n)) (value-append X Y p.1 q)
-      ∙ sym (m.associates _ _ _ (phi_in n p.0) (value_in X p.1) (value_in Y q))
+  value-append X Y p q =
+      sym (value_is c (X ++ Y))
+      ∙ label-append (λ x. x < c.order) (over_elements c) (elements_are_labels c m) heap phi_in X Y p q
+      ∙ ap₂ c.times (value_is c X) (value_is c Y)

@@ -8,6 +8,8 @@
 //! |---|---|
 //! | `specs/Games` | codes, what a move leaves of a heap, positions, moves, outcomes |
 //! | `specs/Quotients` | claims, monoids, values, the misère quotient, the local rule |
+//! | `specs/Parts` | games of some heaps, and when their quotient is infinite |
+//! | `specs/Labels` | claims over labels of any monoid, the rule of what is said of positions |
 //! | `specs/Pairs` | transition pairs, covers, closed lists, the bound on heaps |
 //! | `specs/Kinds` | whole games and their parts: which heaps count, and which show all pairs |
 //! | `specs/Numbering` | least periods, least keys |
@@ -21,6 +23,7 @@
 
 pub mod certificates;
 pub mod games;
+pub mod labels;
 pub mod pairs;
 pub mod plays;
 pub mod quotients;

@@ -1,8 +1,10 @@
 //! Laws of claims: when one is a monoid, when it predicts outcomes, when it is the quotient.
 
-ghost use Rattle.std.specs.Prelude.{◌≡◌, ◌⊎◌, ◌↔◌, ◌<◌, List, ℕ, true};
+ghost use Rattle.std.specs.Prelude.{◌≡◌, ◌⊎◌, ◌↔◌, ◌<◌, ◌≤◌, List, ℕ, Bool, true};
 ghost use Rattle.misere_theory.specs.Games.{IsP, IsHeap, IsHeapUpTo, IsPosition, Move};
 ghost use Rattle.misere_theory.specs.Kinds.{IsHeapIn};
+ghost use Rattle.misere_theory.specs.Parts.{IsInfinite};
+ghost use Rattle.misere_theory.specs.Certificates.{Certificate, Accepted, kind_of};
 ghost use Rattle.misere_theory.specs.Quotients.{Claim, Monoid, LawFails, AllApart, Represents, SameQuotient, RuleHolds, RuleFails, GivesElements, value};
 
 /// A product that stays below the order is a commutative monoid exactly where no law fails.
@@ -68,4 +70,20 @@ pub fn quotients_are_unique()
         → Represents (IsHeapIn M) code c
         → Represents (IsHeapIn M) code d
         → (f : ℕ → ℕ) × (g : ℕ → ℕ) × SameQuotient (IsHeapIn M) c d f g }
+{}
+
+/// If some heaps of a code have an infinite misère quotient, no finite monoid is the quotient of a game
+/// that has these heaps: so no full certificate of the code is accepted, and no partial one that goes as
+/// far as they do.
+pub fn infinite_parts_have_no_finite_quotient()
+    ensures whole { (code : List ℕ) (d : Claim) → IsInfinite IsHeap code → Represents IsHeap code d → ⊥ }
+    ensures claims { (M : ℕ) (code : List ℕ) (heaps : ℕ → Bool) (d : Claim)
+        → IsInfinite (λ n. heaps n ≡ true) code
+        → ((n : ℕ) → heaps n ≡ true → IsHeapIn M n)
+        → Represents (IsHeapIn M) code d → ⊥ }
+    ensures certificates { (M : ℕ) (heaps : ℕ → Bool) (d : Certificate)
+        → IsInfinite (λ n. heaps n ≡ true) d.code
+        → ((n : ℕ) → heaps n ≡ true → IsHeapUpTo M n)
+        → (kind_of d ≡ 0) ⊎ (M ≤ kind_of d)
+        → Accepted d → ⊥ }
 {}

@@ -6,7 +6,8 @@ use Rattle.std.proofs.lemmas.Int.{ints}
 use Rattle.misere_theory.specs.Quotients.{Monoid, GivesElements}
 use Rattle.misere_theory.proofs.Shuffles.{Shuffled, from_permutation, position_shuffled, value_shuffled}
 use Rattle.misere_theory.proofs.Shuffles.Shuffled.{Same, Under, Flip, Then}
-use Rattle.counted_claims.specs.Counted.{CountedClaim, SpeaksOfHeap, elements_of, weighed, IsPart}
+use Rattle.misere_theory.specs.Parts.{IsPart}
+use Rattle.counted_claims.specs.Counted.{CountedClaim, SpeaksOfHeap, elements_of, weighed}
 use Rattle.heap_options.specs.Exact.{heaps_of}
 use Rattle.heap_options.proofs.Exact.{each}
 use Rattle.heap_options.proofs.OptionLaws.{only}

@@ -1,7 +1,7 @@
 -- A heap of the certificate has a number in its list.
 use Rattle.std.proofs.Common.{◌≡◌, ℕ, zero, suc, ◌+◌, ◌<◌, length, arith}
 use Rattle.counted_claims.specs.Counted.{SpeaksOfHeap}
-use Rattle.counted_claims.proofs.Certificates.{written}
+use Rattle.counted_claims.proofs.Tracked.{written}
 use Rattle.tracked_claims.specs.Fields.{Fields}
 use Rattle.tracked_claims.specs.Reads.{claim_in}
 

@@ -2,7 +2,8 @@
 -- project's own.
 use Rattle.std.specs.Prelude.{◌≡◌, ℕ, ◌+◌, ◌<◌, ◌≤◌, ℤ, List, [], length, slice_index, slice_index_or}
 use Rattle.misere_theory.specs.Quotients.{GivesElements}
-use Rattle.counted_claims.specs.Counted.{CountedClaim, SpeaksOfHeap, elements_of, IsPart}
+use Rattle.misere_theory.specs.Parts.{IsPart}
+use Rattle.counted_claims.specs.Counted.{CountedClaim, SpeaksOfHeap, elements_of}
 use Rattle.counted_claims.specs.Places.{weight_of, IsHeapChange}
 use Rattle.tracked_claims.specs.Fields.{pieces}
 

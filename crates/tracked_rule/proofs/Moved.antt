@@ -5,7 +5,8 @@ use Rattle.std.proofs.Math.Seq.{take-length}
 use Rattle.misere_theory.specs.Games.{HeapOption, Move, IsPosition}
 use Rattle.misere_theory.specs.Games.Move.{Here, There}
 use Rattle.misere_theory.specs.Quotients.{Monoid, GivesElements}
-use Rattle.counted_claims.specs.Counted.{CountedClaim, elements_of, element, counted, says_p, IsPart}
+use Rattle.misere_theory.specs.Parts.{IsPart}
+use Rattle.counted_claims.specs.Counted.{CountedClaim, elements_of, element, counted, says_p}
 use Rattle.counted_claims.specs.Places.{plus, weight_of, change_of}
 use Rattle.counted_claims.proofs.Values.{counted-append, counted-cons, counted-change, element-append}
 use Rattle.counted_claims.proofs.Vectors.{plus-assoc, plus-right_comm}
@@ -78,8 +79,8 @@ module _
       let q = part (slice_index X k) H (heap_within heap X k p l) o in
       let r = rear heap X (suc k) p in
       ap₂ c.region
-      (element-append heap code part c m phi_in (take k X) (H ++ drop (suc k) X) (front heap X k p)
+      (element-append heap c m phi_in (take k X) (H ++ drop (suc k) X) (front heap X k p)
       (both heap H (drop (suc k) X) q r)
       ∙ ap (c.times (element c (take k X)))
-      (element-append heap code part c m phi_in H (drop (suc k) X) q r))
+      (element-append heap c m phi_in H (drop (suc k) X) q r))
       (counted-replaced c X k H l)

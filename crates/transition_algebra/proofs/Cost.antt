@@ -11,7 +11,7 @@ use native.Mathlib.Decide.{dec_le, dec_lt}
 use Rattle.misere_theory.specs.Games.{IsCode, leaves_three}
 use Rattle.misere_theory.proofs.Codes.{no_three}
 use Rattle.misere_theory.proofs.Ranges.{sum_more, sum_none, sum_at_most, sum_at_least}
-use Rattle.misere_theory.proofs.Rules.{true_or_false}
+use Rattle.misere_theory.proofs.LocalRule.{true_or_false}
 use Rattle.monoid_table.specs.Grids.{Grid}
 use Rattle.octal_code.proofs.BitLaws.{allowed}
 use Rattle.heap_options.proofs.WalkLaws.{three_off}

@@ -1,6 +1,5 @@
 use Rattle.counted_claims.specs.Counted.{SpeaksOfHeap}
 use Rattle.counted_claims.proofs.Covering.{predicts}
-use Rattle.counted_claims.proofs.Everywhere.{everywhere as wherever}
 use Rattle.counted_claims.proofs.tested_claims_predict.Goals as goal
 
 pub returns : goal.returns
@@ -8,6 +7,4 @@ returns g = record {
   right = λ code c place tried possible kept part m phi_in tries likely closed states changes.
       predicts (SpeaksOfHeap c) code part c m phi_in place tried possible tries likely kept closed states
       changes;
-  everywhere = λ code c place tried possible kept tries low changes.
-      wherever code c (SpeaksOfHeap c) place tried possible kept tries low changes;
 }

@@ -1,16 +1,17 @@
 -- A game with infinitely many positions that are told apart has no finite misère quotient.
 -- Their values would be as many different elements.
-use Rattle.std.proofs.Common.{◌≡◌, ℕ, zero, suc, ◌<◌, ◌≤◌, true, false, List, [], ◌∷◌, length, refl, sym, inl, inr, arith, eqb, eqb-true, ne_eqb}
+use Rattle.std.proofs.Common.{◌≡◌, ℕ, zero, suc, ◌<◌, ◌≤◌, ◌⊎◌, true, false, List, [], ◌∷◌, length, refl, sym, inl, inr, arith, eqb, eqb-true, ne_eqb}
 use Rattle.std.specs.List.{list_any, IsDistinct, AllByRecursion}
 use Rattle.std.proofs.lemmas.Map.Steps.{length-le_from_distinct_below}
-use Rattle.misere_theory.specs.Games.{IsPosition, Indistinguishable}
+use Rattle.misere_theory.specs.Games.{IsPosition, IsHeapUpTo, Indistinguishable}
 use Rattle.misere_theory.specs.Quotients.{Claim, value, Represents}
+use Rattle.misere_theory.specs.Parts.{AreToldApart, IsInfinite}
+use Rattle.misere_theory.specs.Certificates.{Certificate, Accepted, IsHeapOf, kind_of, claim_of}
 use Rattle.misere_theory.proofs.Sums.{value_in}
 use Rattle.misere_theory.proofs.Counting.{position_where}
 use Rattle.misere_theory.proofs.Outcomes.{not_both}
-use Rattle.misere_theory.proofs.Rules.{true_or_false}
+use Rattle.misere_theory.proofs.LocalRule.{true_or_false}
 use Rattle.std.proofs.lemmas.Bool.{true≢false}
-use Rattle.counted_claims.specs.Counted.{AreToldApart, IsInfinite}
 
 -- the values below n, from the last on
 below : (ℕ → ℕ) → ℕ → List ℕ
@@ -67,3 +68,12 @@ no_quotient heap more in_more code d (X, positions, told) r =
     (λ Z p. (r.indistinguishable (X m) (X n) (wider m) (wider n)).1 e Z
     (position_where heap more in_more Z p)))
     d.order (λ n. value_in more d r.monoid r.elements (X n) (wider n))
+
+-- nor is a certificate accepted that speaks of all these heaps
+pub no_certificate : (M : ℕ) (heap : ℕ → Type 0) → ((n : ℕ) → heap n → IsHeapUpTo M n)
+    → (d : Certificate) → IsInfinite heap d.code → (kind_of d ≡ 0) ⊎ (M ≤ kind_of d) → Accepted d → ⊥
+no_certificate M heap within d infinite far a =
+    no_quotient heap (IsHeapOf d)
+    (λ n s. let h = within n s in
+    (h.0, λ some. let top = h.1 in elim far [ inl e ↦ absurd (omega arith) | inr l ↦ omega arith ]))
+    d.code (claim_of d) infinite a.represents

@@ -1,7 +1,0 @@
-pub mod Tests
-pub mod Game
-pub mod States
-pub mod Data
-pub mod Kept
-pub mod Hints
-pub mod Accepted
