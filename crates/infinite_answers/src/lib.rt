@@ -2,7 +2,9 @@
 #![tactic(auto)]
 
 mod infinite;
+mod laws;
 mod refusal;
 
 pub use infinite::Infinite;
+pub use laws::refused_positions_show_wrong_claims;
 pub use refusal::InfiniteRefusal;

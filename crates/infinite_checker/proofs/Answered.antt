@@ -7,10 +7,11 @@ use Rattle.tracked_text.specs.Said.{Said, InRanges, fields_of}
 use Rattle.tracked_text.specs.Shape.{AreShaped}
 use Rattle.tracked_text.specs.Spelling.{Spells}
 use Rattle.tracked_certificate.specs.Told.{Told, told_of}
-use Rattle.infinite_answers.specs.Answers.{Why, Text, Law, Order, Outcome, Limit, Memory, Part, Idle, Undecided, Ray, Fits, IsTrueOf}
+use Rattle.infinite_answers.specs.Keys.{AreKeys}
+use Rattle.infinite_answers.specs.Answers.{AreNumbered, Why, Text, Law, Order, Outcome, Limit, Memory, Part, Idle, Undecided, Ray, FitsIn, Fits, IsTrueOf}
 use Rattle.infinite_answers.specs.Kept.{Kept, IsKeptOf}
 use Rattle.infinite_answers.specs.Shown.{IsShown}
-use Rattle.infinite_checker.specs.Right.{IsRightIn}
+use Rattle.infinite_answers.specs.Right.{IsRightIn}
 use Rattle.infinite_checker.specs.Ray.{IsRayIn}
 
 abbrev pub kept_of : Told → Kept
@@ -18,16 +19,16 @@ kept_of t = record { claim = t.fields; base = t.base; up = t.up; down = t.down }
 
 -- All that is judged of a text with a yes.
 pub record IsJudged (t : Told) : Type 0 where
-  pub monoid : Monoid t.fields.order (claim_in t.fields).times
+  pub numbered : AreNumbered t.fields t.words
   pub right : IsRightIn t.fields
   pub ray : (step : ℕ) × (far : ℕ) × IsRayIn t.fields t.base t.up t.down step far
 
 module _ (law : (c : Said) (step far : ℕ) → InRanges c
-    → Monoid c.order (claim_in (fields_of c)).times → IsRightIn (fields_of c)
+    → AreNumbered (fields_of c) c.words → IsRightIn (fields_of c)
     → IsRayIn (fields_of c) c.base c.up c.down step far → IsShown c) where
   shown_told : (c : Said) → InRanges c → IsJudged (told_of c) → IsShown c
   shown_told c ranges j =
-      let (step, far, ray) = j.ray in law c step far ranges j.monoid j.right ray
+      let (step, far, ray) = j.ray in law c step far ranges j.numbered j.right ray
 
   pub kept_and_shown : (t : Told) (c : Said) → InRanges c → t ≡ told_of c → IsJudged t
       → IsKeptOf (kept_of t) c × IsShown c
@@ -36,16 +37,19 @@ module _ (law : (c : Said) (step far : ℕ) → InRanges c
       (λ j. (record { claim = refl; base = refl; up = refl; down = refl }, shown_told c ranges j)) j
 
   -- the answer, of parts that are those of the text
-  pub answered_yes : (t : Told) (u : Fields) (base up down : List ℕ) (k : Kept) (c : Said)
-      → InRanges c → t ≡ told_of c → Monoid t.fields.order (claim_in t.fields).times → u ≡ t.fields
-      → IsRightIn u → ((step : ℕ) × (far : ℕ) × IsRayIn u base up down step far)
+  pub answered_yes : (t : Told) (u : Fields) (words : List (ℕ × ℕ)) (base up down : List ℕ) (k : Kept)
+      (c : Said) → InRanges c → t ≡ told_of c → Monoid t.fields.order (claim_in t.fields).times
+      → u ≡ t.fields → words ≡ t.words → AreKeys u words → IsRightIn u → ((step : ℕ) × (far : ℕ) × IsRayIn u base up down step far)
       → base ≡ t.base → up ≡ t.up → down ≡ t.down
       → k ≡ record { claim = u; base = t.base; up = t.up; down = t.down }
       → IsKeptOf k c × IsShown c
-  answered_yes t u base up down k c ranges e m same right ray b p d is =
+  answered_yes t u words base up down k c ranges e m same said keys right ray b p d is =
       let judged : IsJudged t =
       record {
-        monoid = m;
+        numbered = record {
+          monoid = m;
+          keys = subst (λ u. AreKeys u t.words) same (subst (AreKeys u) said keys);
+        };
         right = subst IsRightIn same right;
         ray =
             subst (λ d. (step : ℕ) × (far : ℕ) × IsRayIn t.fields t.base t.up d step far) d
@@ -57,6 +61,13 @@ module _ (law : (c : Said) (step far : ℕ) → InRanges c
       let eq : k ≡ kept_of t =
       is ∙ ap (λ u. record { claim = u; base = t.base; up = t.up; down = t.down }) same in
       (subst (λ k. IsKeptOf k c) (sym eq) kept, shown)
+
+-- what is refused of these parts is refused of what is said
+pub refused_of : (t : Told) (u : Fields) (words : List (ℕ × ℕ)) (c : Said) (why : Why) → t ≡ told_of c
+    → u ≡ t.fields → words ≡ t.words → FitsIn u words why → Fits c why
+refused_of t u words c why e same said f =
+    subst (λ t. FitsIn t.fields t.words why) e
+    (subst (λ w. FitsIn t.fields w why) said (subst (λ u. FitsIn u words why) same f))
 
 pub law_fails : (t : Told) (c : Said) → t ≡ told_of c → AreShaped (fields_of c)
     → (AreShaped t.fields → LawFails t.fields.order (claim_in t.fields).times) → Fits c Law

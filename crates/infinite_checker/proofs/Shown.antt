@@ -1,17 +1,22 @@
 -- What is seen of a certificate shows what it says.
-use Rattle.std.proofs.Common.{◌≡◌, ℕ, zero, suc, ◌-◌, ◌<◌, ◌≤◌, ◌⊎◌, inl, inr, Bool, true, false, List, [], ◌∷◌, length, slice_index_or, is_some, sym, ◌∙◌, ap, subst, arith}
+use Rattle.std.proofs.Common.{◌≡◌, ℕ, zero, suc, ◌-◌, ◌<◌, ◌≤◌, ◌⊎◌, inl, inr, Bool, true, false, List, [], ◌∷◌, length, map, slice_index_or, is_some, sym, ◌∙◌, ap, subst, arith}
 use Rattle.std.specs.List.{AllByRecursion}
 use Rattle.std.proofs.lemmas.List.{length-map}
 use Rattle.std.proofs.lemmas.List.Elements.{All-get_or}
 use Rattle.misere_theory.specs.Games.{IsPosition}
+use Rattle.misere_theory.specs.Kinds.{IsHeapIn}
+use Rattle.misere_theory.specs.Quotients.{Claim, Represents}
+use Rattle.misere_theory.specs.Parts.{IsInfinite}
 use Rattle.misere_theory.specs.Certificates.{Certificate, Accepted, kind_of}
 use Rattle.counted_claims.specs.Counted.{SpeaksOfHeap, counted}
 use Rattle.counted_claims.specs.Folds.{IsFold, AreRayTracks, IsRayOnTracks}
 use Rattle.counted_claims.specs.Tracked.{TrackedCertificate, tracked_claim_of, AcceptedTracked}
+use Rattle.counted_claims.proofs.Tracked.{written}
 use Rattle.tracked_claims.specs.Fields.{Fields, certificate_in}
 use Rattle.tracked_claims.specs.Reads.{claim_in}
 use Rattle.tracked_text.specs.Said.{Said, certificate_of, fields_of}
 use Rattle.tracked_text.specs.Shape.{AreShaped, AreHeapsOf}
+use Rattle.infinite_answers.specs.Keys.{AreKeys}
 use Rattle.infinite_answers.specs.Shown.{IsShown}
 use Rattle.infinite_checker.specs.Ray.{IsRayIn}
 use Rattle.infinite_checker.proofs.Flat.{folds_are}
@@ -60,7 +65,22 @@ ray_on_tracks t base up down step far s b u d r =
 
 module _ (c : Said) (same : certificate_in (fields_of c) ≡ certificate_of c)
     (excluded : (k : TrackedCertificate) (d : Certificate) → AcceptedTracked k → d.code ≡ k.code
-    → (kind_of d ≡ 0) ⊎ (length k.heaps ≤ kind_of d) → Accepted d → ⊥) where
+    → (kind_of d ≡ 0) ⊎ (length k.heaps ≤ kind_of d) → Accepted d → ⊥)
+    (no_finite : (M : ℕ) (code : List ℕ) (heaps : ℕ → Bool) (d : Claim)
+    → IsInfinite (λ n. heaps n ≡ true) code → ((n : ℕ) → heaps n ≡ true → IsHeapIn M n)
+    → Represents (IsHeapIn M) code d → ⊥)
+    (keys : AreKeys (fields_of c) c.words) where
+  within : (N : ℕ) → (N ≡ 0) ⊎ (length c.elements ≤ N) → (n : ℕ)
+      → slice_index_or (false ∷ map is_some c.elements) n false ≡ true → IsHeapIn N n
+  within N far n h =
+      let w = written (map is_some c.elements) n h in (
+        w.0,
+        λ some. elim far [
+          | inl e ↦ absurd (omega arith)
+          | inr l ↦ let top = w.1 in omega (arith, length-map c.elements is_some)
+        ],
+      )
+
   as_far : (d : Certificate) → (kind_of d ≡ 0) ⊎ (length c.elements ≤ kind_of d)
       → (kind_of d ≡ 0) ⊎ (length (certificate_of c).heaps ≤ kind_of d)
   as_far d far =
@@ -74,5 +94,8 @@ module _ (c : Said) (same : certificate_in (fields_of c) ≡ certificate_of c)
       let accepted : AcceptedTracked (certificate_of c) = subst AcceptedTracked same a in
       record {
         accepted = accepted;
+        keys = keys;
+        no_claim = λ N d far.
+            no_finite N c.code (tracked_claim_of (certificate_of c)).heaps d accepted.infinite (within N far);
         no_quotient = λ d e far. excluded (certificate_of c) d accepted e (as_far d far);
       }

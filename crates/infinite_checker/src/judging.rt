@@ -2,10 +2,11 @@
 ghost use Rattle.std.specs.Prelude.{IsOk, IfErr, ℕ};
 ghost use Rattle.misere_theory.specs.Quotients.{Monoid};
 ghost use Rattle.tracked_claims.specs.Reads.{claim_in};
-ghost use Rattle.infinite_answers.specs.Answers.{FitsIn};
+ghost use Rattle.infinite_answers.specs.Answers.{AreNumbered, FitsIn};
+ghost use Rattle.infinite_answers.specs.Keys.{AreKeys};
 ghost use Rattle.infinite_answers.specs.Refusals.{refused};
 ghost use Rattle.infinite_checker.specs.Ray.{IsRayIn};
-ghost use Rattle.infinite_checker.specs.Right.{IsRightIn};
+ghost use Rattle.infinite_answers.specs.Right.{IsRightIn};
 
 use crate::numbering::are_keys;
 use crate::predicting::predicted;
@@ -22,6 +23,7 @@ fn infinite<A: SmallAllocator + Copy>(
     words: &[Key],
     ray: Ray<'_>,
 ) -> Result<(), InfiniteRefusal<A>>
+    requires { AreNumbered t.now words.now × IsRightIn t.now }
     ensures ray { IsOk result → (step : ℕ) × (far : ℕ)
         × IsRayIn t.now ray.entry.base.now ray.entry.up.now ray.entry.down.now step far }
     ensures refused { IfErr result (λ r. FitsIn t.now words.now (refused r)) }
@@ -41,7 +43,7 @@ fn right<A: SmallAllocator + Copy>(
     words: &[Key],
     limit: u32,
 ) -> Result<(), InfiniteRefusal<A>>
-    requires { Monoid t.now.order (claim_in t.now).times }
+    requires { AreNumbered t.now words.now }
     ensures right { IsOk result → IsRightIn t.now }
     ensures refused { IfErr result (λ r. FitsIn t.now words.now (refused r)) }
 {
@@ -58,6 +60,7 @@ pub(crate) fn judged<A: SmallAllocator + Copy>(
     limit: u32,
 ) -> Result<(), InfiniteRefusal<A>>
     requires { Monoid t.now.order (claim_in t.now).times }
+    ensures keys { IsOk result → AreKeys t.now words.now }
     ensures right { IsOk result → IsRightIn t.now }
     ensures ray { IsOk result → (step : ℕ) × (far : ℕ)
         × IsRayIn t.now ray.entry.base.now ray.entry.up.now ray.entry.down.now step far }

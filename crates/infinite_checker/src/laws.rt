@@ -11,14 +11,15 @@ ghost use Rattle.tracked_claims.specs.Reads.{claim_in};
 ghost use Rattle.tracked_moves.specs.Moves.{Moves, AreMoves};
 ghost use Rattle.tracked_places.specs.Points.{Points, ArePoints, place_at};
 ghost use Rattle.tracked_text.specs.Said.{Said, InRanges, fields_of};
-ghost use Rattle.infinite_answers.specs.Answers.{HasIdlePlace};
+ghost use Rattle.infinite_answers.specs.Answers.{AreNumbered, HasIdlePlace};
 ghost use Rattle.infinite_answers.specs.Shown.{IsShown};
 ghost use Rattle.infinite_checker.specs.Ray.{IsRayIn};
-ghost use Rattle.infinite_checker.specs.Right.{IsRightIn};
+ghost use Rattle.infinite_answers.specs.Right.{IsRightIn};
 ghost use Rattle.infinite_checker.specs.Joined.{axes_of, tables_of, numbering_of, changes_of, weights_of};
 
 use counted_claims::{folds_are_enough, tested_tracked_certificates_are_accepted};
 use counted_states::{positions_are_reached, tested_numbers_predict};
+use misere_theory::quotients::infinite_parts_have_no_finite_quotient;
 use tracked_text::fields_are_shaped;
 
 /// Tables of a certificate's heaps, and tables of places made of their weights and changes, say together
@@ -74,14 +75,15 @@ pub(crate) fn idle_by_tables()
     folds_are_enough();
 }
 
-/// What is said is shown, if its claim is right and its positions are a ray.
+/// What is said is shown, if its elements are numbered, its claim is right and its positions are a ray.
 pub(crate) fn shown_by_rays()
     ensures { (c : Said) (step far : ℕ) → InRanges c
-        → Monoid c.order (claim_in (fields_of c)).times
+        → AreNumbered (fields_of c) c.words
         → IsRightIn (fields_of c)
         → IsRayIn (fields_of c) c.base c.up c.down step far
         → IsShown c }
 {
     fields_are_shaped();
     tested_tracked_certificates_are_accepted();
+    infinite_parts_have_no_finite_quotient();
 }

@@ -5,10 +5,10 @@ ghost use Rattle.counted_states.specs.Numbers.{AreTestedIn};
 ghost use Rattle.tracked_claims.specs.Reads.{claim_in};
 ghost use Rattle.tracked_moves.specs.Moves.{AreMoves, Moves as MovesIn};
 ghost use Rattle.tracked_places.specs.Points.{ArePoints, Points as PointsIn};
-ghost use Rattle.infinite_answers.specs.Answers.{FitsIn};
+ghost use Rattle.infinite_answers.specs.Answers.{AreNumbered, FitsIn};
 ghost use Rattle.infinite_answers.specs.Refusals.{refused};
 ghost use Rattle.infinite_checker.specs.Joined.{axes_of, tables_of};
-ghost use Rattle.infinite_checker.specs.Right.{IsRightIn};
+ghost use Rattle.infinite_answers.specs.Right.{IsRightIn};
 
 use crate::joining::{axes, tables};
 use crate::laws::{idle_by_tables, right_by_tables};
@@ -33,7 +33,7 @@ fn listed<A: SmallAllocator + Copy>(
 ) -> Result<Moves<A>, InfiniteRefusal<A>>
     ensures moves { IfOk result (λ m. Monoid t.now.order (claim_in t.now).times
         → AreMoves t.now.code (claim_in t.now) m) }
-    ensures refused { IfErr result (λ r. (words : List (ℕ × ℕ)) → FitsIn t.now words (refused r)) }
+    ensures refused { IfErr result (λ r. (words : List (ℕ × ℕ)) → AreNumbered t.now words → FitsIn t.now words (refused r)) }
 {
     match moves_of(alloc, t) {
         Ok(moves) => Ok(moves),
@@ -50,7 +50,7 @@ fn spanned<A: SmallAllocator + Copy>(
     moves: &Moves<A>,
 ) -> Result<Axes<A>, InfiniteRefusal<A>>
     ensures axes { IfOk result (λ a. a ≡ axes_of t.now a.periods moves.now) }
-    ensures refused { IfErr result (λ r. (words : List (ℕ × ℕ)) → FitsIn t.now words (refused r)) }
+    ensures refused { IfErr result (λ r. (words : List (ℕ × ℕ)) → AreNumbered t.now words → FitsIn t.now words (refused r)) }
 {
     match axes(alloc, t, moves) {
         Ok(found) => Ok(found),
@@ -65,7 +65,7 @@ fn placed<A: SmallAllocator + Copy>(
     axes: &Axes<A>,
 ) -> Result<Points<A>, InfiniteRefusal<A>>
     ensures points { IfOk result (λ p. ArePoints axes.now p) }
-    ensures refused { IfErr result (λ r. (words : List (ℕ × ℕ)) → FitsIn t.now words (refused r)) }
+    ensures refused { IfErr result (λ r. (words : List (ℕ × ℕ)) → AreNumbered t.now words → FitsIn t.now words (refused r)) }
 {
     let _ = t;
     match points_of(alloc, axes, MOST_POINTS) {
@@ -83,7 +83,7 @@ fn joined<A: SmallAllocator + Copy>(
     points: Points<A>,
 ) -> Result<Tables<A>, InfiniteRefusal<A>>
     ensures tables { IfOk result (λ u. u ≡ tables_of t.now moves points u.reach) }
-    ensures refused { IfErr result (λ r. (words : List (ℕ × ℕ)) → FitsIn t.now words (refused r)) }
+    ensures refused { IfErr result (λ r. (words : List (ℕ × ℕ)) → AreNumbered t.now words → FitsIn t.now words (refused r)) }
 {
     match tables(alloc, t, moves, points) {
         Ok(Some(made)) => Ok(made),
@@ -103,7 +103,7 @@ fn occupied<A: SmallAllocator + Copy>(
         → AreMoves t.now.code (claim_in t.now) m
         → ArePoints (axes_of t.now periods m) p
         → tables.now ≡ tables_of t.now m p tables.now.reach
-        → IfErr result (λ r. (words : List (ℕ × ℕ)) → FitsIn t.now words (refused r)) }
+        → IfErr result (λ r. (words : List (ℕ × ℕ)) → AreNumbered t.now words → FitsIn t.now words (refused r)) }
 {
     idle_by_tables();
     let _ = t;
@@ -118,7 +118,7 @@ fn occupied<A: SmallAllocator + Copy>(
 /// of these numbers; or none is found.
 fn refuted<A: SmallAllocator + Copy>(alloc: A, t: &Tracked<A>, word: &[u32]) -> InfiniteRefusal<A>
     requires { Monoid t.now.order (claim_in t.now).times }
-    ensures { (words : List (ℕ × ℕ)) → FitsIn t.now words (refused result) }
+    ensures { (words : List (ℕ × ℕ)) → AreNumbered t.now words → FitsIn t.now words (refused result) }
 {
     let moves = match listed(alloc, t) {
         Ok(moves) => moves,
@@ -140,7 +140,7 @@ fn kept<A: SmallAllocator + Copy>(
 ) -> Result<KeptPairs<A>, InfiniteRefusal<A>>
     requires { Monoid t.now.order (claim_in t.now).times }
     ensures kept { IfOk result (λ k. AreTestedIn tables.now k) }
-    ensures refused { IfErr result (λ r. (words : List (ℕ × ℕ)) → FitsIn t.now words (refused r)) }
+    ensures refused { IfErr result (λ r. (words : List (ℕ × ℕ)) → AreNumbered t.now words → FitsIn t.now words (refused r)) }
 {
     match tested_states(alloc, tables, limit as usize, MOST_TURNS) {
         Ok(kept) => Ok(kept),
@@ -160,7 +160,7 @@ pub(crate) fn predicted<A: SmallAllocator + Copy>(
 ) -> Result<(), InfiniteRefusal<A>>
     requires { Monoid t.now.order (claim_in t.now).times }
     ensures right { IsOk result → IsRightIn t.now }
-    ensures refused { IfErr result (λ r. (words : List (ℕ × ℕ)) → FitsIn t.now words (refused r)) }
+    ensures refused { IfErr result (λ r. (words : List (ℕ × ℕ)) → AreNumbered t.now words → FitsIn t.now words (refused r)) }
 {
     right_by_tables();
     let moves = listed(alloc, t)?;

@@ -7,7 +7,7 @@ use Rattle.misere_theory.specs.Quotients.{Monoid}
 use Rattle.counted_claims.specs.Counted.{CountedClaim, SpeaksOfHeap, element, counted, says_p}
 use Rattle.counted_claims.specs.Places.{plus, change_of}
 use Rattle.tracked_moves.specs.Moves.{Moves, AreMoves, heap_at, change_at}
-use Rattle.infinite_answers.specs.Shown.{RuleFails}
+use Rattle.misere_theory.specs.Labels.{BreaksRule}
 use Rattle.tracked_rule.specs.Looks.{replaced, MovesAt, LeadsOutAt, IsLookAt, IsLook, says_behind, IsLookOver, joined, IsLookBelow}
 use Rattle.tracked_rule.specs.declared.look.Look.{Look}
 use Rattle.tracked_rule.specs.declared.look.Look.TheVariants.{Still, Out, In, Unknown}
@@ -136,7 +136,7 @@ module _ (code : List ℕ) (c : CountedClaim) (X : List ℕ) where
   all_looked Unknown f = tt
 
   pub fails_if : (says : Bool) → says ≡ says_p c X → IsLook code c X Still
-      → (says ≡ true) ↔ RuleFails code c X
+      → (says ≡ true) ↔ BreaksRule code (says_p c) X
   fails_if true e h = (λ _. inl (sym e, inl h), λ _. refl)
   fails_if false e h = (
     λ t. absurd (true≢false (sym t)),
@@ -147,7 +147,7 @@ module _ (code : List ℕ) (c : CountedClaim) (X : List ℕ) where
   )
 
   pub fails_in : (says : Bool) → says ≡ says_p c X → IsLook code c X In
-      → (says ≡ true) ↔ RuleFails code c X
+      → (says ≡ true) ↔ BreaksRule code (says_p c) X
   fails_in true e h = (λ _. inl (sym e, inr h), λ _. refl)
   fails_in false e h = (
     λ t. absurd (true≢false (sym t)),
@@ -158,7 +158,7 @@ module _ (code : List ℕ) (c : CountedClaim) (X : List ℕ) where
   )
 
   pub fails_out : (says : Bool) → says ≡ says_p c X → IsLook code c X Out
-      → (not says ≡ true) ↔ RuleFails code c X
+      → (not says ≡ true) ↔ BreaksRule code (says_p c) X
   fails_out false e h = (λ _. inr (sym e, h.0, h.1), λ _. refl)
   fails_out true e h = (
     λ t. absurd (true≢false (sym t)),

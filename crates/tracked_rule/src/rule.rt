@@ -5,7 +5,7 @@ ghost use Rattle.misere_theory.specs.Quotients.{Monoid};
 ghost use Rattle.counted_claims.specs.Counted.{CountedClaim, SpeaksOfHeap, counted, says_p};
 ghost use Rattle.tracked_claims.specs.Reads.{claim_in};
 ghost use Rattle.tracked_moves.specs.Moves.{AreMoves};
-ghost use Rattle.infinite_answers.specs.Shown.{RuleFails};
+ghost use Rattle.misere_theory.specs.Labels.{BreaksRule};
 ghost use Rattle.tracked_rule.specs.Looks.{IsLook, IsLookAt, IsLookBelow, joined};
 
 use crate::counting::{counted, element_of};
@@ -87,7 +87,7 @@ fn look<A: Allocator, B: Allocator>(
 #[tactic(auto, using(crate::proofs::Looked::fails_if, crate::proofs::Looked::fails_in, crate::proofs::Looked::fails_out))]
 fn fails(is_p: bool, look: Look) -> Option<bool>
     ensures { IfSome result (λ b. (code : List ℕ) (c : CountedClaim) (X : List ℕ)
-        → is_p ≡ says_p c X → IsLook code c X look → (b ≡ true) ↔ RuleFails code c X) }
+        → is_p ≡ says_p c X → IsLook code c X look → (b ≡ true) ↔ BreaksRule code (says_p c) X) }
 {
     match look {
         Look::Still => Some(is_p),
@@ -137,7 +137,7 @@ fn rule_fails_with<A: Allocator, B: Allocator>(
     requires monoid { Monoid t.now.order (claim_in t.now).times }
     requires position { IsPosition (SpeaksOfHeap (claim_in t.now)) heaps.now }
     requires counts { counts.now ≡ counted (claim_in t.now) heaps.now }
-    ensures { IfSome result (λ b. (b ≡ true) ↔ RuleFails t.now.code (claim_in t.now) heaps.now) }
+    ensures { IfSome result (λ b. (b ≡ true) ↔ BreaksRule t.now.code (says_p (claim_in t.now)) heaps.now) }
 {
     let says = is_p(t, heaps, counts)?;
     fails(says, look(t, m, heaps, counts, room))
@@ -159,7 +159,7 @@ pub fn rule_fails_at<A: Allocator, B: Allocator + Copy>(
     requires monoid { Monoid t.now.order (claim_in t.now).times }
     requires position { IsPosition (SpeaksOfHeap (claim_in t.now)) heaps.now }
     ensures { IfOk result (λ found. IfSome found
-        (λ b. (b ≡ true) ↔ RuleFails t.now.code (claim_in t.now) heaps.now)) }
+        (λ b. (b ≡ true) ↔ BreaksRule t.now.code (says_p (claim_in t.now)) heaps.now)) }
 {
     let Some(counts) = counted(alloc, t, heaps)? else {
         return Ok(None);

@@ -3,10 +3,10 @@
 ghost use Rattle.std.specs.Prelude.{◌≡◌, IfOk, IfSome, IsTrue};
 ghost use Rattle.misere_theory.specs.Games.{IsPosition};
 ghost use Rattle.misere_theory.specs.Quotients.{Monoid};
-ghost use Rattle.counted_claims.specs.Counted.{SpeaksOfHeap};
+ghost use Rattle.counted_claims.specs.Counted.{SpeaksOfHeap, says_p};
 ghost use Rattle.tracked_claims.specs.Reads.{claim_in};
 ghost use Rattle.tracked_moves.specs.Moves.{AreMoves};
-ghost use Rattle.infinite_answers.specs.Shown.{RuleFails};
+ghost use Rattle.misere_theory.specs.Labels.{BreaksRule};
 
 use crate::reached::{Reached, read};
 use crate::regions::is_p_at;
@@ -48,7 +48,7 @@ fn is_failing<A: Allocator + Copy>(
     requires moves { AreMoves t.now.code (claim_in t.now) m.now }
     requires monoid { Monoid t.now.order (claim_in t.now).times }
     ensures position { IfOk result (λ b. IsTrue b → IsPosition (SpeaksOfHeap (claim_in t.now)) heaps.now) }
-    ensures fails { IfOk result (λ b. IsTrue b → RuleFails t.now.code (claim_in t.now) heaps.now) }
+    ensures fails { IfOk result (λ b. IsTrue b → BreaksRule t.now.code (says_p (claim_in t.now)) heaps.now) }
 {
     if !are_heaps(t, heaps) {
         return Ok(false);
@@ -72,7 +72,7 @@ fn failing<A: SmallAllocator + Copy>(
     ensures position { IfOk result (λ found. IfSome found
         (λ X. IsPosition (SpeaksOfHeap (claim_in t.now)) X)) }
     ensures fails { IfOk result (λ found. IfSome found
-        (λ X. RuleFails t.now.code (claim_in t.now) X)) }
+        (λ X. BreaksRule t.now.code (says_p (claim_in t.now)) X)) }
 {
     let Some(heaps) = narrowed(alloc, position.heaps())? else {
         return Ok(None);
@@ -167,7 +167,7 @@ fn failing_beside<A: SmallAllocator + Copy>(
     ensures position { IfOk result (λ found. IfSome found
         (λ X. IsPosition (SpeaksOfHeap (claim_in t.now)) X)) }
     ensures fails { IfOk result (λ found. IfSome found
-        (λ X. RuleFails t.now.code (claim_in t.now) X)) }
+        (λ X. BreaksRule t.now.code (says_p (claim_in t.now)) X)) }
 {
     if !go_on(t, m, search, n, i)? || search.looks == 0 {
         return Ok(None);
@@ -192,7 +192,7 @@ fn failing_behind<A: SmallAllocator + Copy>(
     ensures position { IfOk result (λ found. IfSome found
         (λ X. IsPosition (SpeaksOfHeap (claim_in t.now)) X)) }
     ensures fails { IfOk result (λ found. IfSome found
-        (λ X. RuleFails t.now.code (claim_in t.now) X)) }
+        (λ X. BreaksRule t.now.code (says_p (claim_in t.now)) X)) }
 {
     for i in 0..m.heaps.len() {
         if let Some(position) = failing_beside(alloc, t, m, search, n, i)? {
@@ -235,7 +235,7 @@ pub fn failing_position<A: SmallAllocator + Copy>(
     ensures position { IfOk result (λ found. IfSome found
         (λ X. IsPosition (SpeaksOfHeap (claim_in t.now)) X)) }
     ensures fails { IfOk result (λ found. IfSome found
-        (λ X. RuleFails t.now.code (claim_in t.now) X)) }
+        (λ X. BreaksRule t.now.code (says_p (claim_in t.now)) X)) }
 {
     let named = position_of(alloc, m, word)?;
     if let Some(position) = failing(alloc, t, m, named)? {
