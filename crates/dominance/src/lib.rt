@@ -1,0 +1,38 @@
+//! Games in which one heap may rule all others, whole ones with heaps of every size: what has to be tested of
+//! a claim about them, and their misère quotient. Definitions, and laws, each the contract of a function that
+//! does nothing.
+//!
+//! | Folder | What stands there |
+//! |---|---|
+//! | `specs/Triples` | the monoid U of parities, weights and leads, and its P-portion |
+//! | `specs/Tested` | what is tested of a claim that gives each heap a triple |
+//! | `src/` | the laws |
+//! | `proofs/` | the lemmas, and beside them a folder for each law |
+#![tactic(auto)]
+
+ghost use Rattle.std.specs.Prelude.{◌≡◌, ◌<◌, ◌↔◌, ◌++◌, ℕ, true, List};
+ghost use Rattle.misere_theory.specs.Games.{IsHeap, IsPosition, IsP};
+ghost use Rattle.dominance.specs.Triples.{Triple, nothing, times, is_p, IsElement, triple_of, IsRuled};
+ghost use Rattle.dominance.specs.Tested.{State, AreTested};
+
+/// The elements of U are a commutative monoid; the triple of a sum of positions is the product of theirs, and
+/// its lead isn't 0 exactly where one heap rules the others.
+pub fn triples_are_a_monoid()
+    ensures closed { (u v : Triple) → IsElement u → IsElement v → IsElement (times u v) }
+    ensures identity { (u : Triple) → times nothing u ≡ u }
+    ensures commutes { (u v : Triple) → times u v ≡ times v u }
+    ensures associates { (u v w : Triple) → times (times u v) w ≡ times u (times v w) }
+    ensures sums { (label : ℕ → Triple) (X Y : List ℕ)
+        → triple_of label (X ++ Y) ≡ times (triple_of label X) (triple_of label Y) }
+    ensures rulers { (label : ℕ → Triple) (X : List ℕ)
+        → (0 < (triple_of label X).lead) ↔ IsRuled label X }
+{}
+
+/// What is tested of triples, of each heap by itself, makes the P-portion right of each position of the whole
+/// game: of any number of heaps of any size.
+pub fn tested_triples_predict()
+    ensures { (code : List ℕ) (label : ℕ → Triple) (kinds kept : List State)
+        → AreTested code label kinds kept
+        → (X : List ℕ) → IsPosition IsHeap X
+        → IsP code X ↔ (is_p (triple_of label X) ≡ true) }
+{}
