@@ -5,3 +5,5 @@ pub mod Apart
 pub mod Leaders
 pub mod States
 pub mod Tested
+pub mod Telling
+pub mod Quotient

@@ -6,14 +6,18 @@
 //! |---|---|
 //! | `specs/Triples` | the monoid U of parities, weights and leads, and its P-portion |
 //! | `specs/Tested` | what is tested of a claim that gives each heap a triple |
+//! | `specs/Quotient` | when the triples of positions are the whole misère quotient |
 //! | `src/` | the laws |
 //! | `proofs/` | the lemmas, and beside them a folder for each law |
 #![tactic(auto)]
 
 ghost use Rattle.std.specs.Prelude.{◌≡◌, ◌<◌, ◌↔◌, ◌++◌, ℕ, true, List};
-ghost use Rattle.misere_theory.specs.Games.{IsHeap, IsPosition, IsP};
+ghost use Rattle.misere_theory.specs.Games.{IsHeap, IsPosition, IsP, Indistinguishable};
+ghost use Rattle.misere_theory.specs.Quotients.{Claim, Represents};
+ghost use Rattle.counted_claims.specs.Counted.{IsInfinite};
 ghost use Rattle.dominance.specs.Triples.{Triple, nothing, times, is_p, IsElement, triple_of, IsRuled};
 ghost use Rattle.dominance.specs.Tested.{State, AreTested};
+ghost use Rattle.dominance.specs.Quotient.{ArePredicting, HasRulers};
 
 /// The elements of U are a commutative monoid; the triple of a sum of positions is the product of theirs, and
 /// its lead isn't 0 exactly where one heap rules the others.
@@ -35,4 +39,23 @@ pub fn tested_triples_predict()
         → AreTested code label kinds kept
         → (X : List ℕ) → IsPosition IsHeap X
         → IsP code X ↔ (is_p (triple_of label X) ≡ true) }
+{}
+
+/// Where the triples are right of each position, and heaps tell all triples apart, the triples are the misère
+/// quotient: positions are indistinguishable exactly if their triples are equal. It is infinite, and no finite
+/// claim represents the game.
+pub fn triples_are_the_quotient()
+    ensures indistinguishable { (code : List ℕ) (label : ℕ → Triple)
+        → ArePredicting code label
+        → HasRulers label
+        → (X Y : List ℕ) → IsPosition IsHeap X → IsPosition IsHeap Y
+        → Indistinguishable IsHeap code X Y ↔ (triple_of label X ≡ triple_of label Y) }
+    ensures infinite { (code : List ℕ) (label : ℕ → Triple)
+        → ArePredicting code label
+        → HasRulers label
+        → IsInfinite IsHeap code }
+    ensures no_claim { (code : List ℕ) (label : ℕ → Triple)
+        → ArePredicting code label
+        → HasRulers label
+        → (d : Claim) → Represents IsHeap code d → ⊥ }
 {}

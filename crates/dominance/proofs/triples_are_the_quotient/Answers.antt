@@ -1,0 +1,9 @@
+use Rattle.dominance.proofs.Quotient.{exactly, infinite as infinitely_many, no_finite}
+use Rattle.dominance.proofs.triples_are_the_quotient.Goals as goal
+
+pub returns : goal.returns
+returns g = record {
+  indistinguishable = exactly;
+  infinite = infinitely_many;
+  no_claim = no_finite;
+}
