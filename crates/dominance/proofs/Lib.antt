@@ -7,3 +7,9 @@ pub mod States
 pub mod Tested
 pub mod Telling
 pub mod Quotient
+pub mod Options
+pub mod Raised
+pub mod Periods
+pub mod Larger
+pub mod Farther
+pub mod Finite

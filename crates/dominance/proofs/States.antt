@@ -28,7 +28,7 @@ either false b e = inr e
 swapped : (a b : ℕ) → a + b ≡ b + a
 swapped a b = omega arith
 
-module _ (code : List ℕ) (label : ℕ → Triple)
+module _ (code : List ℕ) (listed : List ℕ → Bool) (label : ℕ → Triple)
     (elements : (n : ℕ) → IsHeap n → IsElement (label n)) where
   -- A move makes this change, and the lead that it leaves is at most the weight of the heaviest heap.
   abbrev pub IsChange : List ℕ → Change → Type 0
@@ -68,8 +68,8 @@ module _ (code : List ℕ) (label : ℕ → Triple)
   )
 
   change_of_heap : (n : ℕ) (X : List ℕ) (x : Change) → IsHeap n → IsPosition IsHeap X
-      → IsHeapChange code label n x → IsChange (n ∷ X) x
-  change_of_heap n X x h p (H, o, odd, weight, lead) =
+      → IsHeapChange code listed label n x → IsChange (n ∷ X) x
+  change_of_heap n X x h p (H, o, _, odd, weight, lead) =
       let e = triple-append label H X in (
         H ++ X,
         Here o refl,
@@ -84,7 +84,7 @@ module _ (code : List ℕ) (label : ℕ → Triple)
       )
 
   state_beside : (n : ℕ) (X : List ℕ) (k h : State) → IsHeap n → IsPosition IsHeap X → HasState X k
-      → IsStateOf code label n h → HasState (n ∷ X) (together k h)
+      → IsStateOf code listed label n h → HasState (n ∷ X) (together k h)
   state_beside n X k h is_heap p s t = record {
     same_odd = ap₂ xor s.same_odd t.same_odd ∙ xor_comm (triple_of label X).odd (label n).odd;
     same_size =
@@ -115,7 +115,7 @@ module _ (code : List ℕ) (label : ℕ → Triple)
   }
 
   pub kept_state : (kinds kept : List State) → AreClosed kinds kept
-      → ((n : ℕ) → IsHeap n → (h : State) × Contains kinds h × IsStateOf code label n h)
+      → ((n : ℕ) → IsHeap n → (h : State) × Contains kinds h × IsStateOf code listed label n h)
       → (X : List ℕ) → IsPosition IsHeap X → (k : State) × Contains kept k × HasState X k
   kept_state kinds kept closed kinds_of [] p =
       let (k, i, w) = closed.start in (k, i, within_state [] k empty_state w nothing_has)

@@ -17,8 +17,8 @@ use Rattle.dominance.proofs.Apart.{never_both_said}
 use Rattle.dominance.proofs.Leaders.{Leads, some_leads, no_heavier, led_at_most, led_light}
 use Rattle.dominance.proofs.States.{HasState, kept_state}
 
-module _ (code : List ℕ) (label : ℕ → Triple) (kinds kept : List State)
-    (tested : AreTested code label kinds kept) where
+module _ (code : List ℕ) (listed : List ℕ → Bool) (label : ℕ → Triple) (kinds kept : List State)
+    (tested : AreTested code listed label kinds kept) where
   abbrev pub says : List ℕ → Bool
   says X = is_p (triple_of label X)
 
@@ -55,7 +55,7 @@ module _ (code : List ℕ) (label : ℕ → Triple) (kinds kept : List State)
 
   -- a leading heap and the others, and a kept state of these
   module _ (n : ℕ) (Y : List ℕ) (p : IsPosition IsHeap (n ∷ Y)) (all : Leads label n Y) (k : State)
-      (kept_k : Contains kept k) (s : HasState code label tested.elements Y k) where
+      (kept_k : Contains kept k) (s : HasState code listed label tested.elements Y k) where
     stands : MayStandBeside (label n) k (triple_of label Y)
     stands = record {
       element = element_of label tested.elements Y p.1;
@@ -66,7 +66,7 @@ module _ (code : List ℕ) (label : ℕ → Triple) (kinds kept : List State)
       led = led_at_most label tested.elements n Y p.1 all;
     }
 
-    settled : IsSettled code label n k (triple_of label Y)
+    settled : IsSettled code listed label n k (triple_of label Y)
     settled = tested.settled n k (triple_of label Y) p.0 kept_k stands
 
     leader_moves : says (n ∷ Y) ≡ true → (Z : List ℕ) × Move code (n ∷ Y) Z
@@ -95,7 +95,7 @@ module _ (code : List ℕ) (label : ℕ → Triple) (kinds kept : List State)
         | inl (H, o, _) ↦ absurd (none H o)
         | inr (V, i, _) ↦ absurd (s.ended dead V i)
       ]
-      | inr (inl (H, o, f)) ↦ (H ++ Y, Here o refl, ap is_p (triple-append label H Y) ∙ f)
+      | inr (inl (H, o, _, f)) ↦ (H ++ Y, Here o refl, ap is_p (triple-append label H Y) ∙ f)
       | inr (inr (x, i, f)) ↦
           let (V, j, odd, weight, lead) = s.changes x i in (
             n ∷ V,
@@ -121,7 +121,7 @@ module _ (code : List ℕ) (label : ℕ → Triple) (kinds kept : List State)
       let (n, Y, s, all) = some_leads label a X in
       let q = position_shuffled IsHeap s p in
       let (k, i, h) =
-      kept_state code label tested.elements kinds kept tested.closed tested.kinds_of Y q.1 in
+      kept_state code listed label tested.elements kinds kept tested.closed tested.kinds_of Y q.1 in
       obeys_shuffled (a ∷ X) (n ∷ Y) s (leader_obeys n Y q all k i h)
 
   pub predicts : (X : List ℕ) → IsPosition IsHeap X → IsP code X ↔ (says X ≡ true)

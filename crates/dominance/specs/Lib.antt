@@ -1,3 +1,4 @@
 pub mod Triples
 pub mod Tested
 pub mod Quotient
+pub mod Finite

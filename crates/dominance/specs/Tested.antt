@@ -51,21 +51,21 @@ pub record IsWithin (k h : State) : Type 0 where
   pub same_alive : k.alive ≡ h.alive
   pub fewer : (x : Change) → Contains k.changes x → Contains h.changes x
 
--- Some option of the heap makes the change, and its own lead is at most the heap's weight.
-abbrev pub IsHeapChange : List ℕ → (ℕ → Triple) → ℕ → Change → Type 0
-IsHeapChange code label n x =
-    (H : List ℕ) × HeapOption code n H
+-- Some listed option of the heap makes the change, and its own lead is at most the heap's weight.
+abbrev pub IsHeapChange : List ℕ → (List ℕ → Bool) → (ℕ → Triple) → ℕ → Change → Type 0
+IsHeapChange code listed label n x =
+    (H : List ℕ) × HeapOption code n H × (listed H ≡ true)
     × ((triple_of label H).odd ≡ xor x.0 (label n).odd)
     × ((triple_of label H).weight + x.1 ≡ (label n).weight)
     × ((triple_of label H).lead ≤ (label n).weight)
 
 -- The state of the heap alone.
-pub record IsStateOf (code : List ℕ) (label : ℕ → Triple) (n : ℕ) (k : State) : Type 0 where
+pub record IsStateOf (code : List ℕ) (listed : List ℕ → Bool) (label : ℕ → Triple) (n : ℕ) (k : State) : Type 0 where
   pub same_odd : k.odd ≡ (label n).odd
   pub same_size : k.size ≡ size_of (label n).weight
   pub moves : k.alive ≡ true → (H : List ℕ) × HeapOption code n H
   pub ended : k.alive ≡ false → (H : List ℕ) → HeapOption code n H → ⊥
-  pub changes : (x : Change) → Contains k.changes x → IsHeapChange code label n x
+  pub changes : (x : Change) → Contains k.changes x → IsHeapChange code listed label n x
 
 -- The kept states have the empty position's, and with each also the one of a heap more.
 pub record AreClosed (kinds kept : List State) : Type 0 where
@@ -85,22 +85,23 @@ pub record MayStandBeside (u : Triple) (k : State) (y : Triple) : Type 0 where
 
 -- The rule at a heap of this triple beside y, in the state k: in the P-portion there is a move; outside there
 -- is none, or some option of the heap leads into it, or a change of the others does.
-pub record IsSettled (code : List ℕ) (label : ℕ → Triple) (n : ℕ) (k : State) (y : Triple) : Type 0 where
+pub record IsSettled (code : List ℕ) (listed : List ℕ → Bool) (label : ℕ → Triple) (n : ℕ) (k : State) (y : Triple) : Type 0 where
   pub inside : is_p (times (label n) y) ≡ true
       → (k.alive ≡ true) ⊎ ((H : List ℕ) × HeapOption code n H)
   pub outside : is_p (times (label n) y) ≡ false
       → ((k.alive ≡ false) × ((H : List ℕ) → HeapOption code n H → ⊥))
-      ⊎ ((H : List ℕ) × HeapOption code n H × (is_p (times (triple_of label H) y) ≡ true))
+      ⊎ ((H : List ℕ) × HeapOption code n H × (listed H ≡ true) × (is_p (times (triple_of label H) y) ≡ true))
       ⊎ ((x : Change) × Contains k.changes x
       × (is_p (times (label n) (record { odd = xor x.0 y.odd; weight = y.weight - x.1; lead = 0 })) ≡ true))
 
--- All that is tested, of each heap: its triple is an element; those of its options are apart from it; it has
--- one of the kinds; and it is settled beside whatever may stand there in a kept state.
-pub record AreTested (code : List ℕ) (label : ℕ → Triple) (kinds kept : List State) : Type 0 where
+-- All that is tested, of each heap: its triple is an element; those of its options are apart from it; it
+-- has one of the kinds; and it is settled beside whatever may stand there in a kept state. The moves that
+-- are to be made are looked for among the listed options alone.
+pub record AreTested (code : List ℕ) (listed : List ℕ → Bool) (label : ℕ → Triple) (kinds kept : List State) : Type 0 where
   pub elements : (n : ℕ) → IsHeap n → IsElement (label n)
   pub apart : (n : ℕ) (H : List ℕ) → IsHeap n → HeapOption code n H
       → AreApart (label n) (triple_of label H)
-  pub kinds_of : (n : ℕ) → IsHeap n → (h : State) × Contains kinds h × IsStateOf code label n h
+  pub kinds_of : (n : ℕ) → IsHeap n → (h : State) × Contains kinds h × IsStateOf code listed label n h
   pub closed : AreClosed kinds kept
   pub settled : (n : ℕ) (k : State) (y : Triple) → IsHeap n → Contains kept k
-      → MayStandBeside (label n) k y → IsSettled code label n k y
+      → MayStandBeside (label n) k y → IsSettled code listed label n k y

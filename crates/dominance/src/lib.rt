@@ -7,17 +7,19 @@
 //! | `specs/Triples` | the monoid U of parities, weights and leads, and its P-portion |
 //! | `specs/Tested` | what is tested of a claim that gives each heap a triple |
 //! | `specs/Quotient` | when the triples of positions are the whole misère quotient |
+//! | `specs/Finite` | claims whose triples repeat with a period, and of which heaps the tests are enough |
 //! | `src/` | the laws |
 //! | `proofs/` | the lemmas, and beside them a folder for each law |
 #![tactic(auto)]
 
-ghost use Rattle.std.specs.Prelude.{◌≡◌, ◌<◌, ◌↔◌, ◌++◌, ℕ, true, List};
+ghost use Rattle.std.specs.Prelude.{◌≡◌, ◌<◌, ◌↔◌, ◌++◌, ℕ, Bool, true, List};
 ghost use Rattle.misere_theory.specs.Games.{IsHeap, IsPosition, IsP, Indistinguishable};
 ghost use Rattle.misere_theory.specs.Quotients.{Claim, Represents};
 ghost use Rattle.counted_claims.specs.Counted.{IsInfinite};
 ghost use Rattle.dominance.specs.Triples.{Triple, nothing, times, is_p, IsElement, triple_of, IsRuled};
 ghost use Rattle.dominance.specs.Tested.{State, AreTested};
 ghost use Rattle.dominance.specs.Quotient.{ArePredicting, HasRulers};
+ghost use Rattle.dominance.specs.Finite.{Extent, is_listed, AreTestedBelow};
 
 /// The elements of U are a commutative monoid; the triple of a sum of positions is the product of theirs, and
 /// its lead isn't 0 exactly where one heap rules the others.
@@ -35,10 +37,23 @@ pub fn triples_are_a_monoid()
 /// What is tested of triples, of each heap by itself, makes the P-portion right of each position of the whole
 /// game: of any number of heaps of any size.
 pub fn tested_triples_predict()
-    ensures { (code : List ℕ) (label : ℕ → Triple) (kinds kept : List State)
-        → AreTested code label kinds kept
+    ensures { (code : List ℕ) (listed : List ℕ → Bool) (label : ℕ → Triple)
+        (kinds kept : List State)
+        → AreTested code listed label kinds kept
         → (X : List ℕ) → IsPosition IsHeap X
         → IsP code X ↔ (is_p (triple_of label X) ≡ true) }
+{}
+
+/// What is tested of finitely many heaps, beside finitely many triples each, is enough, if the triples repeat
+/// with a period up to an even rise: so they predict the outcome of each position of the whole game. Of octal
+/// and hexadecimal codes.
+pub fn finitely_many_tests_are_enough()
+    ensures tests { (code : List ℕ) (label : ℕ → Triple) (kinds kept : List State) (e : Extent)
+        → AreTestedBelow code label kinds kept e
+        → AreTested code (is_listed e.start) label kinds kept }
+    ensures predict { (code : List ℕ) (label : ℕ → Triple) (kinds kept : List State) (e : Extent)
+        → AreTestedBelow code label kinds kept e
+        → ArePredicting code label }
 {}
 
 /// Where the triples are right of each position, and heaps tell all triples apart, the triples are the misère
