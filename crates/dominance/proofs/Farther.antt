@@ -1,6 +1,6 @@
 -- What stands beside a heap is tried up to some weight: two more don't matter then.
-use Rattle.std.proofs.Common.{◌≡◌, ℕ, zero, suc, ◌+◌, ◌-◌, ◌*◌, ◌%◌, ◌<◌, ◌≤◌, ◌⊎◌, Bool, true, false, List, [], ◌∷◌, refl, sym, ◌∙◌, ap, inl, inr, arith, Contains}
-use native.Mathlib.Decide.{dec_lt, dec_le}
+use Rattle.std.proofs.Common.{◌≡◌, ℕ, zero, suc, ◌+◌, ◌-◌, ◌*◌, ◌<◌, ◌≤◌, Bool, List, refl, sym, ◌∙◌, ap, inl, inr, arith, Contains}
+use native.Mathlib.Decide.{dec_le}
 use Rattle.misere_theory.specs.Games.{HeapOption}
 use Rattle.dominance.specs.Triples.{Triple, xor, times, is_p, IsElement, triple_of}
 use Rattle.dominance.specs.Tested.{Change, State, MayStandBeside, IsSettled}

@@ -1,8 +1,8 @@
 -- What is tested of finitely many heaps holds of all.
 -- By induction on the heap: a period on, the same tests hold, of what stands beside it with a rise more, or of
 -- the same if that is little.
-use Rattle.std.proofs.Common.{◌≡◌, ℕ, zero, suc, ◌+◌, ◌-◌, ◌*◌, ◌%◌, ◌<◌, ◌≤◌, ◌⊎◌, Bool, true, false, List, [], ◌∷◌, refl, sym, ◌∙◌, ap, inl, inr, arith, Contains}
-use native.Mathlib.Decide.{dec_lt, dec_le}
+use Rattle.std.proofs.Common.{◌≡◌, ℕ, ◌+◌, ◌-◌, ◌<◌, ◌≤◌, true, List, sym, ◌∙◌, ap, inl, inr, arith, Contains}
+use native.Mathlib.Decide.{dec_le}
 use Rattle.misere_theory.specs.Games.{HeapOption, IsHeap}
 use Rattle.dominance.specs.Triples.{Triple, xor, times, is_p, IsElement, triple_of}
 use Rattle.dominance.specs.Tested.{Change, State, size_of, MayStandBeside, IsStateOf, IsSettled, AreTested}

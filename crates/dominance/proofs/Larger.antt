@@ -1,19 +1,16 @@
 -- What is tested of a heap holds of the heap a period on.
 -- A period is put on the largest heap that is left, or taken off it.
-use Rattle.std.proofs.Common.{◌≡◌, ◌≢◌, ℕ, zero, suc, ◌+◌, ◌-◌, ◌*◌, ◌%◌, ◌<◌, ◌≤◌, ◌⊎◌, Bool, true, false, List, [], ◌∷◌, length, refl, sym, ◌∙◌, ap, subst, inl, inr, arith, nat_lt, nat_le, Contains, IsBitSet}
-use Rattle.std.specs.List.{AllByRecursion}
+use Rattle.std.proofs.Common.{◌≡◌, ◌≢◌, ℕ, ◌+◌, ◌-◌, ◌*◌, ◌<◌, ◌≤◌, ◌⊎◌, true, List, [], ◌∷◌, length, sym, ◌∙◌, ap, subst, inl, inr, arith}
 use Rattle.std.proofs.lemmas.Bool.Decides.{nat_tests}
-use native.Mathlib.Decide.{dec_lt, dec_le}
-use Rattle.misere_theory.specs.Games.{HeapOption, IsHeap, IsPosition, digit}
-use Rattle.misere_theory.proofs.Codes.{no_bit_of_zero}
+use Rattle.misere_theory.specs.Games.{HeapOption, IsHeap, IsPosition}
 use Rattle.misere_theory.proofs.Sums.{heaps_kept}
-use Rattle.misere_theory.proofs.Shuffles.{Shuffled, back}
-use Rattle.dominance.specs.Triples.{Triple, xor, IsElement, times, triple_of}
+use Rattle.misere_theory.proofs.Shuffles.{Shuffled}
+use Rattle.dominance.specs.Triples.{Triple, xor, IsElement, triple_of}
 use Rattle.dominance.specs.Tested.{State, AreApart}
 use Rattle.dominance.specs.Finite.{Extent, IsExtent, IsRaised, IsFar, heaps_from, is_listed}
 use Rattle.dominance.proofs.Options.{heaps_from_shuffled, option_shuffled, option_raised, option_lowered, largest, none_left, largest_at_least, alone_at_least, times_two}
 use Rattle.dominance.proofs.Positions.{element_of, triple_shuffled}
-use Rattle.dominance.proofs.Periods.{elements_all, far_off, far_all, weighs, few_weigh}
+use Rattle.dominance.proofs.Periods.{far_off, far_all, weighs, few_weigh}
 use Rattle.dominance.proofs.Raised.{raised_beside, apart_raised}
 
 module _ (code : List ℕ) (label : ℕ → Triple) (kept : List State) (e : Extent)

@@ -1,14 +1,13 @@
 -- What holds of the heaps before a period's end, and of each heap a period on, holds of all.
 -- And so all heaps from some on are far.
-use Rattle.std.proofs.Common.{◌≡◌, ℕ, zero, suc, ◌+◌, ◌-◌, ◌*◌, ◌%◌, ◌<◌, ◌≤◌, ◌⊎◌, List, [], ◌∷◌, length, refl, sym, ◌∙◌, ap, subst, inl, inr, arith, nat_lt}
+use Rattle.std.proofs.Common.{◌≡◌, ℕ, zero, suc, ◌+◌, ◌-◌, ◌*◌, ◌<◌, ◌≤◌, List, [], ◌∷◌, length, subst, arith}
 use Rattle.std.proofs.lemmas.Bool.Decides.{nat_tests}
-use native.Mathlib.Decide.{dec_lt, dec_le}
-use Rattle.misere_theory.specs.Games.{HeapOption, IsHeap, IsPosition, digit}
-use Rattle.dominance.specs.Triples.{Triple, IsElement, times, triple_of}
+use native.Mathlib.Decide.{dec_lt}
+use Rattle.misere_theory.specs.Games.{IsHeap, IsPosition}
+use Rattle.dominance.specs.Triples.{Triple, IsElement, triple_of}
 use Rattle.dominance.specs.Tested.{State}
-use Rattle.dominance.specs.Finite.{Extent, IsExtent, IsRaised, IsFar, heaps_from}
+use Rattle.dominance.specs.Finite.{Extent, IsExtent, IsFar, heaps_from}
 use Rattle.dominance.proofs.Raised.{element_raised, far_raised}
-use Rattle.dominance.proofs.Positions.{element_of}
 
 module _ (Q : ℕ → Type 0) (from p : ℕ) (some : 1 ≤ p) (step : (n : ℕ) → from ≤ n → Q n → Q (p + n)) where
   within : (lowest : ℕ) → lowest ≤ from → ((n : ℕ) → lowest ≤ n → n < from + p → Q n)

@@ -1,17 +1,17 @@
 -- Positions with different triples are told apart by a position.
-use Rattle.std.proofs.Common.{◌≡◌, ◌≢◌, ℕ, zero, suc, ◌+◌, ◌-◌, ◌*◌, ◌%◌, ◌<◌, ◌≤◌, ◌⊎◌, ◌↔◌, max, Bool, true, false, not, List, [], ◌∷◌, ◌++◌, refl, sym, ◌∙◌, ap, inl, inr, arith, eq-zero-or-pos}
+use Rattle.std.proofs.Common.{◌≡◌, ◌≢◌, ℕ, zero, suc, ◌+◌, ◌-◌, ◌*◌, ◌/◌, ◌%◌, ◌<◌, ◌≤◌, ◌⊎◌, ◌↔◌, Bool, true, false, not, List, [], ◌∷◌, ◌++◌, refl, sym, ◌∙◌, ap, inl, inr, arith, eq-zero-or-pos}
 use Rattle.std.proofs.lemmas.Bool.{true≢false}
-use native.Mathlib.Decide.{dec_lt, dec_le, ℕ_discrete}
+use native.Mathlib.Decide.{dec_lt, ℕ_discrete}
 use Rattle.misere_theory.specs.Games.{IsHeap, IsPosition, IsP, IsN, Indistinguishable}
 use Rattle.misere_theory.specs.Quotients.{Claim, Represents}
 use Rattle.misere_theory.proofs.Sums.{IsPosition-append}
 use Rattle.misere_theory.proofs.Outcomes.{determined, not_both}
-use Rattle.misere_theory.proofs.Rules.{true_or_false}
-use Rattle.counted_claims.specs.Counted.{AreToldApart, IsInfinite}
-use Rattle.counted_claims.proofs.NoQuotient.{no_quotient}
-use Rattle.dominance.specs.Triples.{Triple, xor, times, is_p, IsElement, triple_of}
-use Rattle.dominance.specs.Quotient.{ArePredicting, HasRulers}
-use Rattle.dominance.proofs.Triples.{IsSaid, said, says, same_triple}
+use Rattle.misere_theory.specs.Parts.{AreToldApart, IsInfinite}
+use Rattle.misere_theory.proofs.NoQuotient.{no_quotient}
+use Rattle.dominance.specs.Triples.{Triple, xor, times, is_p, IsElement, triple_of, claim_by}
+use Rattle.dominance.specs.Quotient.{ArePredicting, HasRulers, HasAllRulers}
+use Rattle.misere_theory.specs.Labels.{RepresentsBy}
+use Rattle.dominance.proofs.Triples.{IsSaid, said, says, same_triple, identity, commutes, associates, element_times}
 use Rattle.dominance.proofs.Positions.{triple-append, element_of}
 use Rattle.dominance.proofs.Telling.{IsTold, told_by_odd, told_by_weight, told_by_lead, told_by_ruler}
 
@@ -282,3 +282,61 @@ module _ (code : List ℕ) (label : ℕ → Triple) (right : ArePredicting code 
 
   pub no_finite : (d : Claim) → Represents IsHeap code d → ⊥
   no_finite d r = no_quotient IsHeap IsHeap (λ n h. h) code d infinite r
+
+-- where each element is a position's, they represent the game
+module _ (label : ℕ → Triple) (has : HasAllRulers label) where
+  pub rulers : HasRulers label
+  rulers = record {
+    turning = has.turning;
+    waiting = has.waiting;
+    ruling = λ m. has.ruling (m + 1);
+    turns = has.turns;
+    waits = has.waits;
+    rules = λ m. let (h, l, w) = has.rules (m + 1) (omega arith) in (h, omega arith);
+  }
+
+  halves : (l w : ℕ) → l < w → (l + w) % 2 ≡ 1 → (j : ℕ) × (w ≡ l + 1 + 2 * j)
+  halves l w less odd = ((w - l) / 2, omega arith)
+
+  unled : (x : Triple) → x.lead ≡ 0 → (X : List ℕ) × IsPosition IsHeap X × (triple_of label X ≡ x)
+  unled x none =
+      let t = waiting_with label rulers x.odd x.weight in (
+        t.at,
+        t.is_position,
+        same_triple (triple_of label t.at) x t.same_odd t.same_weight (t.same_lead ∙ sym none),
+      )
+
+  led : (x : Triple) → 0 < x.lead → (j : ℕ) → x.weight ≡ x.lead + 1 + 2 * j
+      → (X : List ℕ) × IsPosition IsHeap X × (triple_of label X ≡ x)
+  led x some j e =
+      let n = has.ruling (x.lead + j) in
+      let (h, l, w) = has.rules (x.lead + j) (omega arith) in
+      let t = ruling_with label rulers x.odd n x.lead h (omega arith) in (
+        t.at,
+        t.is_position,
+        same_triple (triple_of label t.at) x t.same_odd (t.same_weight ∙ omega arith) t.same_lead,
+      )
+
+  reached : (x : Triple) → IsElement x
+      → (X : List ℕ) × IsPosition IsHeap X × (triple_of label X ≡ x)
+  reached x (inl none) = unled x none
+  reached x (inr (less, odd)) = elim (eq-zero-or-pos x.lead) [
+    | inl none ↦ unled x none
+    | inr some ↦ let (j, e) = halves x.lead x.weight less odd in led x some j e
+  ]
+
+  pub represents : (code : List ℕ) → ArePredicting code label
+      → RepresentsBy IsElement IsHeap code (claim_by label)
+  represents code right = record {
+    monoid = record {
+      some = inl refl;
+      closed = element_times;
+      identity = λ u _. identity u;
+      commutes = λ u v _ _. commutes u v;
+      associates = λ u v w _ _ _. associates u v w;
+    };
+    labels = right.elements;
+    predicts = right.predicts;
+    indistinguishable = exactly code label right rulers;
+    reached = reached;
+  }

@@ -1,8 +1,8 @@
 -- Which triple tells two of them apart.
-use Rattle.std.proofs.Common.{◌≡◌, ◌≢◌, ℕ, ◌+◌, ◌-◌, ◌%◌, ◌<◌, ◌≤◌, ◌⊎◌, max, Bool, true, false, not, refl, sym, ◌∙◌, ap, inl, inr, arith}
+use Rattle.std.proofs.Common.{◌≡◌, ◌≢◌, ◌+◌, ◌%◌, ◌<◌, ◌≤◌, ◌⊎◌, Bool, true, false, not, refl, sym, ◌∙◌, ap, inl, inr, arith}
 use Rattle.std.proofs.lemmas.Bool.{true≢false}
 use Rattle.dominance.specs.Triples.{Triple, xor, times, IsElement}
-use Rattle.dominance.proofs.Triples.{IsSaid, Fits}
+use Rattle.dominance.proofs.Triples.{IsSaid}
 
 pub xor_itself : (a : Bool) → xor a a ≡ false
 xor_itself true = refl

@@ -6,9 +6,9 @@ use Rattle.std.proofs.lemmas.Bool.{true≢false, false_from_ne_true}
 use Rattle.misere_theory.specs.Games.{Move, IsP, IsPosition, IsHeap}
 use Rattle.misere_theory.specs.Games.Move.{Here, There}
 use Rattle.misere_theory.proofs.Sums.{first_or_rest, heaps_kept, no_move_of_none}
-use Rattle.misere_theory.proofs.Rules.{true_or_false}
 use Rattle.misere_theory.proofs.Shuffles.{Shuffled, back, move_shuffled, position_shuffled, one_heap_moves}
-use Rattle.counted_claims.proofs.LocalRule.{Obeys, right}
+use Rattle.misere_theory.specs.Labels.{ObeysRule}
+use Rattle.misere_theory.proofs.LocalRule.{right_by_rule, true_or_false}
 use Rattle.dominance.specs.Triples.{Triple, xor, times, is_p, triple_of}
 use Rattle.dominance.specs.Tested.{Change, State, MayStandBeside, IsSettled, AreTested}
 use Rattle.dominance.proofs.Triples.{said, same_triple}
@@ -38,7 +38,7 @@ module _ (code : List ℕ) (listed : List ℕ → Bool) (label : ℕ → Triple)
       (sym (ap is_p (triple-append label H R)) ∙ sym (said_of_others Y (H ++ R) t) ∙ f)))
 
   -- the rule doesn't hang on the order of heaps
-  obeys_shuffled : (X Y : List ℕ) → Shuffled X Y → Obeys code says Y → Obeys code says X
+  obeys_shuffled : (X Y : List ℕ) → Shuffled X Y → ObeysRule code says Y → ObeysRule code says X
   obeys_shuffled X Y s r = (
     λ e. let ((Z, m), none) = r.0 (sym (said_of_others X Y s) ∙ e) in
         let (W, i, _) = move_shuffled (back s) m in (
@@ -106,7 +106,7 @@ module _ (code : List ℕ) (listed : List ℕ → Bool) (label : ℕ → Triple)
           )
     ]
 
-    leader_obeys : Obeys code says (n ∷ Y)
+    leader_obeys : ObeysRule code says (n ∷ Y)
     leader_obeys = (
       λ e. (leader_moves e, λ Z m. never_into (n ∷ Y) Z p m e),
       λ r. let ((Z, m), none) = r in elim (true_or_false (says (n ∷ Y))) [
@@ -115,7 +115,7 @@ module _ (code : List ℕ) (listed : List ℕ → Bool) (label : ℕ → Triple)
       ],
     )
 
-  obeys : (X : List ℕ) → IsPosition IsHeap X → Obeys code says X
+  obeys : (X : List ℕ) → IsPosition IsHeap X → ObeysRule code says X
   obeys [] p = (λ e. absurd (true≢false (sym e)), λ r. let ((Z, m), _) = r in absurd (no_move_of_none m))
   obeys (a ∷ X) p =
       let (n, Y, s, all) = some_leads label a X in
@@ -125,4 +125,4 @@ module _ (code : List ℕ) (listed : List ℕ → Bool) (label : ℕ → Triple)
       obeys_shuffled (a ∷ X) (n ∷ Y) s (leader_obeys n Y q all k i h)
 
   pub predicts : (X : List ℕ) → IsPosition IsHeap X → IsP code X ↔ (says X ≡ true)
-  predicts = right IsHeap code (heaps_kept code) says obeys
+  predicts = right_by_rule IsHeap code (heaps_kept code) says obeys

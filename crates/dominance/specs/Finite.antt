@@ -1,6 +1,6 @@
 -- Claims whose triples repeat with a period, up to a rise; and which heaps are tested, so that what is tested
 -- of them holds of all. This project's own.
-use Rattle.std.specs.Prelude.{◌≡◌, ◌≢◌, ℕ, ◌+◌, ◌*◌, ◌%◌, ◌<◌, ◌≤◌, nat_lt, nat_le, ◌⊎◌, Bool, true, if◌then◌else◌, List, [], ◌∷◌, Contains}
+use Rattle.std.specs.Prelude.{◌≡◌, ◌≢◌, ℕ, ◌+◌, ◌*◌, ◌%◌, ◌<◌, ◌≤◌, nat_lt, nat_le, ◌⊎◌, Bool, if◌then◌else◌, List, [], ◌∷◌, Contains}
 use Rattle.misere_theory.specs.Games.{digit, HeapOption, IsHeap}
 use Rattle.dominance.specs.Triples.{Triple, IsElement, triple_of}
 use Rattle.dominance.specs.Tested.{Change, State, AreApart, IsStateOf, AreClosed, MayStandBeside, IsSettled}

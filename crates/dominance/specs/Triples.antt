@@ -1,7 +1,8 @@
 -- The monoid U of the games in which one heap may rule all others: triples of a parity, a weight and
 -- a lead. Each heap has one, and a position the product of its heaps' triples. This project's own:
 -- the misère quotient of the octal game 0.26.
-use Rattle.std.specs.Prelude.{◌≡◌, ℕ, ◌+◌, ◌-◌, ◌%◌, ◌<◌, ◌==◌, max, ◌⊎◌, Bool, true, false, not, ◌&&◌, if◌then◌else◌, List, [], ◌∷◌, ◌++◌}
+use Rattle.std.specs.Prelude.{◌≡◌, ℕ, ◌+◌, ◌-◌, ◌%◌, ◌<◌, ◌==◌, max, ◌⊎◌, Bool, true, false, not, ◌&&◌, if◌then◌else◌, List, ◌∷◌, ◌++◌}
+use Rattle.misere_theory.specs.Labels.{LabelClaim, label_of}
 
 -- A heap rules a position if the others together weigh less than its lead; a heap with the lead 0
 -- never does. The lead of a position is what is left of it beside the others, and 0 if none rules.
@@ -43,10 +44,13 @@ is_p u = if u.weight == 0 then u.odd else not u.odd && parity_fits u.weight u.le
 abbrev pub IsElement : Triple → Type 0
 IsElement u = (u.lead ≡ 0) ⊎ ((u.lead < u.weight) × ((u.lead + u.weight) % 2 ≡ 1))
 
+-- The claim that gives each heap a triple: a position is P if the product of its heaps' is in the portion.
+abbrev pub claim_by : (ℕ → Triple) → LabelClaim Triple
+claim_by label = record { one = nothing; times = times; label = label; portion = is_p }
+
 -- The product of the heaps' triples.
 abbrev pub triple_of : (ℕ → Triple) → List ℕ → Triple
-triple_of label [] = nothing
-triple_of label (n ∷ X) = times (label n) (triple_of label X)
+triple_of label X = label_of (claim_by label) X
 
 -- A heap rules the others: they weigh less than its lead.
 abbrev pub IsRuled : (ℕ → Triple) → List ℕ → Type 0

@@ -15,10 +15,11 @@
 ghost use Rattle.std.specs.Prelude.{◌≡◌, ◌<◌, ◌↔◌, ◌++◌, ℕ, Bool, true, List};
 ghost use Rattle.misere_theory.specs.Games.{IsHeap, IsPosition, IsP, Indistinguishable};
 ghost use Rattle.misere_theory.specs.Quotients.{Claim, Represents};
-ghost use Rattle.counted_claims.specs.Counted.{IsInfinite};
-ghost use Rattle.dominance.specs.Triples.{Triple, nothing, times, is_p, IsElement, triple_of, IsRuled};
+ghost use Rattle.misere_theory.specs.Labels.{RepresentsBy};
+ghost use Rattle.misere_theory.specs.Parts.{IsInfinite};
+ghost use Rattle.dominance.specs.Triples.{Triple, nothing, times, is_p, IsElement, claim_by, triple_of, IsRuled};
 ghost use Rattle.dominance.specs.Tested.{State, AreTested};
-ghost use Rattle.dominance.specs.Quotient.{ArePredicting, HasRulers};
+ghost use Rattle.dominance.specs.Quotient.{ArePredicting, HasRulers, HasAllRulers};
 ghost use Rattle.dominance.specs.Finite.{Extent, is_listed, AreTestedBelow};
 
 /// The elements of U are a commutative monoid; the triple of a sum of positions is the product of theirs, and
@@ -58,7 +59,7 @@ pub fn finitely_many_tests_are_enough()
 
 /// Where the triples are right of each position, and heaps tell all triples apart, the triples are the misère
 /// quotient: positions are indistinguishable exactly if their triples are equal. It is infinite, and no finite
-/// claim represents the game.
+/// claim represents the game. Where heaps make all elements of U, these represent it.
 pub fn triples_are_the_quotient()
     ensures indistinguishable { (code : List ℕ) (label : ℕ → Triple)
         → ArePredicting code label
@@ -73,4 +74,8 @@ pub fn triples_are_the_quotient()
         → ArePredicting code label
         → HasRulers label
         → (d : Claim) → Represents IsHeap code d → ⊥ }
+    ensures represents { (code : List ℕ) (label : ℕ → Triple)
+        → ArePredicting code label
+        → HasAllRulers label
+        → RepresentsBy IsElement IsHeap code (claim_by label) }
 {}
