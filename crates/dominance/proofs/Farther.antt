@@ -1,5 +1,5 @@
 -- What stands beside a heap is tried up to some weight: two more don't matter then.
-use Rattle.std.proofs.Common.{◌≡◌, ℕ, zero, suc, ◌+◌, ◌-◌, ◌*◌, ◌<◌, ◌≤◌, Bool, List, refl, sym, ◌∙◌, ap, inl, inr, arith, Contains}
+use Rattle.std.proofs.Common.{true, ◌≡◌, ℕ, zero, suc, ◌+◌, ◌-◌, ◌*◌, ◌<◌, ◌≤◌, Bool, List, refl, sym, ◌∙◌, ap, inl, inr, arith, Contains}
 use native.Mathlib.Decide.{dec_le}
 use Rattle.misere_theory.specs.Games.{HeapOption}
 use Rattle.dominance.specs.Triples.{Triple, xor, times, is_p, IsElement, triple_of}
@@ -19,7 +19,7 @@ two_less_alike v y none low some =
 
 module _ (code : List ℕ) (listed : List ℕ → Bool) (label : ℕ → Triple) (n tried loss : ℕ)
     (element : IsElement (label n)) (k : State)
-    (losses : (x : Change) → Contains k.changes x → x.1 ≤ loss)
+    (losses : (x : Change) → k.changes x ≡ true → x.1 ≤ loss)
     (enough : 2 * (label n).weight + loss ≤ tried)
     (low : (H : List ℕ) → HeapOption code n H → (triple_of label H).lead ≤ tried) where
   module _ (y : Triple) (stands : MayStandBeside (label n) k y) (far : tried + 2 < y.weight) where

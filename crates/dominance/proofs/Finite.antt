@@ -104,7 +104,7 @@ module _ (code : List ℕ) (label : ℕ → Triple) (kinds kept : List State) (e
       (own : is_p (times (label n) y) ≡ is_p (times (label (e.period + n)) z))
       (options : (u v : Triple) → IsRaised e.rise u v → IsFar (e.rise + e.loss + 2) u
       → is_p (times u y) ≡ is_p (times v z))
-      (changes : (x : Change) → Contains k.changes x
+      (changes : (x : Change) → k.changes x ≡ true
       → is_p (times (label n) (changed x y)) ≡ is_p (times (label (e.period + n)) (changed x z))) where
     settled_like : IsSettled code (is_listed e.start) label n k y
         → IsSettled code (is_listed e.start) label (e.period + n) k z
@@ -135,7 +135,7 @@ module _ (code : List ℕ) (label : ℕ → Triple) (kinds kept : List State) (e
   settled_further n l all k y i stands =
       let r = raised_at n l in
       let (w, f) = far_at n l in
-      let losses = λ (x : Change) (j : Contains k.changes x). extent.losses k x i j in
+      let losses = λ (x : Change) (j : k.changes x ≡ true). extent.losses k x i j in
       elim (dec_le y.weight (e.rise + e.loss)) [
         | yes little ↦
             let below : y.lead ≤ y.weight =

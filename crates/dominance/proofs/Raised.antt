@@ -1,5 +1,5 @@
 -- Triples that are raised by an even number: what stays as it is.
-use Rattle.std.proofs.Common.{◌≡◌, ℕ, ◌+◌, ◌-◌, ◌%◌, ◌<◌, ◌≤◌, ◌⊎◌, sym, ◌∙◌, ap, inl, inr, arith, Contains}
+use Rattle.std.proofs.Common.{true, ◌≡◌, ℕ, ◌+◌, ◌-◌, ◌%◌, ◌<◌, ◌≤◌, ◌⊎◌, sym, ◌∙◌, ap, inl, inr, arith, Contains}
 use Rattle.std.specs.Cmp.{both_ways}
 use Rattle.std.proofs.lemmas.Bool.Decides.{nat_tests}
 use native.Mathlib.Decide.{dec_lt}
@@ -157,7 +157,7 @@ module _ (rise loss : ℕ) (even : rise % 2 ≡ 0) (u v y : Triple) (k : State)
   }
 
   pub stands_much : rise + loss < y.weight → 0 < u.weight
-      → ((x : Change) → Contains k.changes x → x.1 ≤ loss)
+      → ((x : Change) → k.changes x ≡ true → x.1 ≤ loss)
       → MayStandBeside u k (record { odd = y.odd; weight = y.weight - rise; lead = y.lead - rise })
   stands_much much some losses = record {
     element = elim (dec_lt rise y.lead) [

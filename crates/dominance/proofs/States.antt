@@ -3,7 +3,6 @@
 use Rattle.std.proofs.Common.{◌≡◌, ℕ, ◌+◌, ◌≤◌, ◌⊎◌, Bool, true, false, ◌||◌, List, [], ◌∷◌, ◌++◌, refl, sym, ◌∙◌, ap, ap₂, inl, inr, arith, Contains}
 use Rattle.std.specs.List.{AllByRecursion}
 use Rattle.std.proofs.lemmas.Bool.{true≢false}
-use Rattle.std.proofs.lemmas.List.Elements.{Contains-append_cases}
 use Rattle.std.proofs.lemmas.Bool.Decides.{nat_tests}
 use Rattle.misere_theory.specs.Games.{Move, IsPosition, IsHeap}
 use Rattle.misere_theory.specs.Games.Move.{Here, There}
@@ -43,7 +42,7 @@ module _ (code : List ℕ) (listed : List ℕ → Bool) (label : ℕ → Triple)
     pub same_size : k.size ≡ size_of (triple_of label X).weight
     pub moves : k.alive ≡ true → (Y : List ℕ) × Move code X Y
     pub ended : k.alive ≡ false → (Y : List ℕ) → Move code X Y → ⊥
-    pub changes : (x : Change) → Contains k.changes x → IsChange X x
+    pub changes : (x : Change) → k.changes x ≡ true → IsChange X x
 
   within_state : (X : List ℕ) (k h : State) → IsWithin k h → HasState X h → HasState X k
   within_state X k h w s = record {
@@ -99,7 +98,7 @@ module _ (code : List ℕ) (listed : List ℕ → Bool) (label : ℕ → Triple)
       | inl (H, o, _) ↦ t.ended b H o
       | inr (Z, i, _) ↦ s.ended a Z i
     ];
-    changes = λ x i. elim (Contains-append_cases k.changes h.changes x i) [
+    changes = λ x i. elim (either (k.changes x) (h.changes x) i) [
       | inl j ↦ change_beside n X x is_heap (s.changes x j)
       | inr j ↦ change_of_heap n X x is_heap p (t.changes x j)
     ];
@@ -111,7 +110,7 @@ module _ (code : List ℕ) (listed : List ℕ → Bool) (label : ℕ → Triple)
     same_size = refl;
     moves = λ e. absurd (true≢false (sym e));
     ended = λ e Y m. no_move_of_none m;
-    changes = λ x i. let (j, l, _) = i in absurd (omega arith);
+    changes = λ x i. absurd (true≢false (sym i));
   }
 
   pub kept_state : (kinds kept : List State) → AreClosed kinds kept

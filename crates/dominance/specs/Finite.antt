@@ -1,6 +1,6 @@
 -- Claims whose triples repeat with a period, up to a rise; and which heaps are tested, so that what is tested
 -- of them holds of all. This project's own.
-use Rattle.std.specs.Prelude.{◌≡◌, ◌≢◌, ℕ, ◌+◌, ◌*◌, ◌%◌, ◌<◌, ◌≤◌, nat_lt, nat_le, ◌⊎◌, Bool, if◌then◌else◌, List, [], ◌∷◌, Contains}
+use Rattle.std.specs.Prelude.{true, ◌≡◌, ◌≢◌, ℕ, ◌+◌, ◌*◌, ◌%◌, ◌<◌, ◌≤◌, nat_lt, nat_le, ◌⊎◌, Bool, if◌then◌else◌, List, [], ◌∷◌, Contains}
 use Rattle.misere_theory.specs.Games.{digit, HeapOption, IsHeap}
 use Rattle.dominance.specs.Triples.{Triple, IsElement, triple_of}
 use Rattle.dominance.specs.Tested.{Change, State, AreApart, IsStateOf, AreClosed, MayStandBeside, IsSettled}
@@ -52,7 +52,7 @@ pub record IsExtent (code : List ℕ) (label : ℕ → Triple) (kept : List Stat
   pub from_start : e.start ≤ e.large
   pub beyond : (e.large + 2 * e.start + e.digits ≤ e.last)
       × (3 * e.start + 3 * e.period + e.digits ≤ e.last)
-  pub losses : (k : State) (x : Change) → Contains kept k → Contains k.changes x → x.1 ≤ e.loss
+  pub losses : (k : State) (x : Change) → Contains kept k → k.changes x ≡ true → x.1 ≤ e.loss
 
 -- What is tested of finitely many heaps, and beside each of finitely many triples.
 pub record AreTestedBelow (code : List ℕ) (label : ℕ → Triple) (kinds kept : List State) (e : Extent)

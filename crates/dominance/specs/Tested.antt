@@ -25,14 +25,14 @@ pub record State : Type 0 where
   pub odd : Bool
   pub size : ℕ
   pub alive : Bool
-  pub changes : List Change
+  pub changes : Change → Bool
 
 abbrev pub size_of : ℕ → ℕ
 size_of weight = if weight == 0 then 0 else 2 - weight % 2
 
 -- The state of the empty position.
 abbrev pub empty_state : State
-empty_state = record { odd = false; size = 0; alive = false; changes = [] }
+empty_state = record { odd = false; size = 0; alive = false; changes = λ x. false }
 
 -- The state of two positions together.
 abbrev pub together : State → State → State
@@ -41,7 +41,7 @@ together k h =
       odd = xor k.odd h.odd;
       size = size_of (k.size + h.size);
       alive = k.alive || h.alive;
-      changes = k.changes ++ h.changes;
+      changes = λ x. k.changes x || h.changes x;
     }
 
 -- The first state says no more than the second one.
@@ -49,7 +49,7 @@ pub record IsWithin (k h : State) : Type 0 where
   pub same_odd : k.odd ≡ h.odd
   pub same_size : k.size ≡ h.size
   pub same_alive : k.alive ≡ h.alive
-  pub fewer : (x : Change) → Contains k.changes x → Contains h.changes x
+  pub fewer : (x : Change) → k.changes x ≡ true → h.changes x ≡ true
 
 -- Some listed option of the heap makes the change, and its own lead is at most the heap's weight.
 abbrev pub IsHeapChange : List ℕ → (List ℕ → Bool) → (ℕ → Triple) → ℕ → Change → Type 0
@@ -65,7 +65,7 @@ pub record IsStateOf (code : List ℕ) (listed : List ℕ → Bool) (label : ℕ
   pub same_size : k.size ≡ size_of (label n).weight
   pub moves : k.alive ≡ true → (H : List ℕ) × HeapOption code n H
   pub ended : k.alive ≡ false → (H : List ℕ) → HeapOption code n H → ⊥
-  pub changes : (x : Change) → Contains k.changes x → IsHeapChange code listed label n x
+  pub changes : (x : Change) → k.changes x ≡ true → IsHeapChange code listed label n x
 
 -- The kept states have the empty position's, and with each also the one of a heap more.
 pub record AreClosed (kinds kept : List State) : Type 0 where
@@ -79,7 +79,7 @@ pub record MayStandBeside (u : Triple) (k : State) (y : Triple) : Type 0 where
   pub element : IsElement y
   pub same_odd : k.odd ≡ y.odd
   pub same_size : k.size ≡ size_of y.weight
-  pub losses : (x : Change) → Contains k.changes x → x.1 ≤ y.weight
+  pub losses : (x : Change) → k.changes x ≡ true → x.1 ≤ y.weight
   pub light : u.weight ≡ 0 → y.weight ≡ 0
   pub led : y.lead ≤ max (u.lead - (y.weight - u.weight)) (2 * u.weight - 3 - y.weight)
 
@@ -91,7 +91,7 @@ pub record IsSettled (code : List ℕ) (listed : List ℕ → Bool) (label : ℕ
   pub outside : is_p (times (label n) y) ≡ false
       → ((k.alive ≡ false) × ((H : List ℕ) → HeapOption code n H → ⊥))
       ⊎ ((H : List ℕ) × HeapOption code n H × (listed H ≡ true) × (is_p (times (triple_of label H) y) ≡ true))
-      ⊎ ((x : Change) × Contains k.changes x
+      ⊎ ((x : Change) × (k.changes x ≡ true)
       × (is_p (times (label n) (record { odd = xor x.0 y.odd; weight = y.weight - x.1; lead = 0 })) ≡ true))
 
 -- All that is tested, of each heap: its triple is an element; those of its options are apart from it; it
