@@ -1,0 +1,5 @@
+pub mod Mapped
+pub mod Repeats
+pub mod Results
+pub mod Claims
+pub mod Laps

@@ -1,0 +1,4 @@
+pub mod Ranks
+pub mod Sides
+pub mod States
+pub mod Passed

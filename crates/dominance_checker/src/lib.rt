@@ -1,0 +1,21 @@
+//! The test of a claim by triples: a yes means that the claim is right of each position of the whole game.
+#![tactic(auto)]
+
+mod answer;
+mod closing;
+mod heap;
+mod making;
+mod numbers;
+mod passing;
+mod ranges;
+mod rank;
+mod rulers;
+mod settling;
+mod shape;
+mod side;
+mod state;
+mod testing;
+
+pub use answer::is_accepted;
+pub use rank::Rank;
+pub use shape::Shape;
