@@ -1,3 +1,4 @@
 pub mod Said
+pub mod Labels
 pub mod Spelling
 pub mod Reading

@@ -2,7 +2,8 @@
 //! definitions, and their laws.
 //!
 //! `SpellsDominance` (specs/Spelling.antt) is the one text of what is said (`DominanceSaid`,
-//! specs/Said.antt); `said_at` (specs/Reading.antt) reads from left to right. Nothing here runs.
+//! specs/Said.antt), and `label_of` (specs/Labels.antt) the triple that it gives to each heap;
+//! `said_at` (specs/Reading.antt) reads from left to right. Nothing here runs.
 #![tactic(auto)]
 
 /// How many heaps have numbers of their own at most, in front of those that repeat them.
@@ -11,8 +12,10 @@ pub const MOST_LABELS: u16 = 1024;
 /// The largest rise, weight and lead.
 pub const LARGEST_WEIGHT: u16 = 60000;
 
-ghost use Rattle.std.specs.Prelude.{◌≡◌, ℕ, List, [], Some};
+ghost use Rattle.std.specs.Prelude.{◌≡◌, ◌+◌, ◌<◌, ◌≤◌, ℕ, List, [], Some};
+ghost use Rattle.dominance.specs.Finite.{IsRaised};
 ghost use Rattle.dominance_text.specs.Said.{DominanceSaid, IsInRanges};
+ghost use Rattle.dominance_text.specs.Labels.{listed_triple, label_of};
 ghost use Rattle.dominance_text.specs.Spelling.{SpellsDominance};
 ghost use Rattle.dominance_text.specs.Reading.{said_at};
 
@@ -32,4 +35,13 @@ pub fn reading_is_spelling()
         → SpellsDominance b c }
     ensures again { (b : List ℕ) (c : DominanceSaid) → SpellsDominance b c
         → said_at b ≡ Some (c, []) }
+{}
+
+/// Up to the end of the first period the lists have each heap's triple. From the start on it repeats
+/// with the period, up to the rise.
+pub fn labels_repeat()
+    ensures listed { (c : DominanceSaid) (n : ℕ) → n < c.start + c.period
+        → label_of c n ≡ listed_triple c n }
+    ensures raised { (c : DominanceSaid) (n : ℕ) → IsInRanges c → c.start ≤ n
+        → IsRaised c.rise (label_of c n) (label_of c (c.period + n)) }
 {}
