@@ -1,0 +1,49 @@
+//! A check of a whole game from its beginning to its end.
+ghost use Rattle.std.specs.Prelude.{IfOk, IfErr, IsTrue};
+ghost use Rattle.dominance_text.specs.Said.{IsInRanges};
+ghost use Rattle.dominance_text.specs.Spelling.{SpellsDominance};
+ghost use Rattle.infinite_answers.specs.Refusals.{refused};
+ghost use Rattle.whole_checker.specs.Solved.{IsRefusedWhole, IsSolved};
+
+use crate::game::WholeGame;
+use crate::ranks::ranks;
+use allocation::{Memory, SmallAllocator};
+use dominance_certificate::{DominanceText, TextFault, read};
+use dominance_checker::{Shape, is_accepted};
+use infinite_answers::InfiniteRefusal;
+
+/// Whether what a text says is seen to be right.
+fn is_solved<A: SmallAllocator + Copy>(alloc: A, text: &DominanceText<A>) -> Result<bool, Memory>
+    requires spelled { IsInRanges text.now }
+    ensures { IfOk result (λ b. IsTrue b → IsSolved text.now) }
+{
+    let shape = Shape {
+        start: text.start as u64,
+        period: text.period as u64,
+        rise: text.rise as u64,
+    };
+    let ranks = ranks(alloc, text)?;
+    is_accepted(alloc, &text.code, shape, &ranks)
+}
+
+/// Whether the bytes are a text of a whole game that is right: it tells the outcome of each position, of any
+/// number of heaps of any size, and which positions are indistinguishable; and the quotient is infinite. Each
+/// refusal is true of the bytes: `Text`, `Undecided` or `Memory`.
+pub fn check_whole<A: SmallAllocator + Copy>(
+    alloc: A,
+    bytes: &[u8],
+) -> Result<WholeGame<A>, InfiniteRefusal<A>>
+    ensures yes { IfOk result (λ k. SpellsDominance bytes.now k × IsSolved k) }
+    ensures no { IfErr result (λ r. IsRefusedWhole bytes.now (refused r)) }
+{
+    let text = match read(alloc, bytes) {
+        Err(TextFault::Text) => return Err(InfiniteRefusal::Text),
+        Err(TextFault::Memory) => return Err(InfiniteRefusal::Memory),
+        Ok(text) => text,
+    };
+    match is_solved(alloc, &text) {
+        Ok(true) => Ok(WholeGame::new(text)),
+        Ok(false) => Err(InfiniteRefusal::Undecided),
+        Err(Memory) => Err(InfiniteRefusal::Memory),
+    }
+}
