@@ -1,0 +1,9 @@
+mod Digits
+mod Sums
+mod Outcomes
+mod Mex
+mod Regular
+mod Ideals
+mod Kernel
+mod Failed
+mod Beyond
