@@ -1,7 +1,7 @@
 mod Digits
 mod Sums
 mod Outcomes
-mod Mex
+pub mod Mex
 mod Regular
 mod Ideals
 mod Kernel

@@ -1,0 +1,3 @@
+mod Walked
+mod Marks
+mod Sequences
