@@ -3,7 +3,7 @@ mod Sums
 mod Outcomes
 pub mod Mex
 mod Regular
-mod Ideals
+pub mod Ideals
 mod Kernel
-mod Failed
-mod Beyond
+pub mod Failed
+pub mod Beyond

@@ -1,0 +1,4 @@
+mod Digits
+mod Sums
+mod Groups
+mod Tested

@@ -1,0 +1,5 @@
+use Rattle.nim_tails.proofs.Sums.{AreSumsBelow}
+use Rattle.nim_tails.proofs.elements.element_sums.Given as goal
+
+abbrev pub invariant-loop-x : goal.invariant-loop-x
+invariant-loop-x l = AreSumsBelow l.certified l.values l.sums.items l.x
