@@ -51,6 +51,7 @@ HasNumbersWithin (plan.SolveLines bounds) = AreWithin bounds
 HasNumbersWithin (plan.SolveInfinite code bounds) = ArePartsWithin InfiniteOrder bounds
 HasNumbersWithin (plan.Series code bounds) = ArePartsWithin DeepOrder bounds
 HasNumbersWithin (plan.Show file limit) = IsWithin Limit limit
+HasNumbersWithin (plan.Tail file limit) = IsWithin Limit limit
 HasNumbersWithin (plan.Describe file output basis limit) = IsWithin Limit limit
 HasNumbersWithin (plan.Play file position limit) = IsWithin Limit limit
 HasNumbersWithin (plan.PlayLines file limit) = IsWithin Limit limit

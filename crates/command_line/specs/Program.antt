@@ -101,6 +101,10 @@ infinite = command (codes "infinite")
     (needed (codes "file") ∷ optional (codes "position") ∷ flag (codes "show")
     ∷ flag (codes "latex") ∷ flag (codes "json") ∷ option (codes "limit") ∷ [])
 
+-- tail FILE [--limit N]
+abbrev pub tail : App
+tail = command (codes "tail") (needed (codes "file") ∷ option (codes "limit") ∷ [])
+
 -- the program's name, which has a version
 abbrev pub misere : App
 misere = record (new_app (codes "misere")) {
@@ -110,7 +114,7 @@ misere = record (new_app (codes "misere")) {
 abbrev pub commands : List App
 commands =
     check ∷ solve ∷ series ∷ show ∷ describe ∷ play ∷ compare ∷ certify ∷ explain ∷ present
-    ∷ catalogue ∷ desk ∷ infinite ∷ []
+    ∷ catalogue ∷ desk ∷ infinite ∷ tail ∷ []
 
 -- the whole command line
 abbrev pub program : App

@@ -19,7 +19,7 @@ use Rattle.command_line.specs.declared.numbers.Quantity.TheVariants.{Limit, Roun
 use Rattle.requests.specs.Requests.{CatalogueRequest, Request}
 use Rattle.requests.specs.Requests.CatalogueRequest.{Print, Table, New, Add, NewWith, Get, Salvage, Migrate}
 use Rattle.requests.specs.Requests.Request.{Check, Solve, SolveMany, SolveLines, Show, Describe, Play, PlayLines, Present, Catalogue, Desk}
-use Rattle.requests.specs.Requests.Request.{SolveInfinite, Series, Compare, Certify, Explain, Infinite, ShowInfinite, PlayInfinite}
+use Rattle.requests.specs.Requests.Request.{SolveInfinite, Series, Tail, Compare, Certify, Explain, Infinite, ShowInfinite, PlayInfinite}
 use Rattle.requests.specs.Requests.Request.{PlayInfiniteLines}
 use Rattle.requests.specs.declared.plans.Aim.{Aim}
 use Rattle.requests.specs.declared.plans.Aim.TheVariants as aim
@@ -59,6 +59,13 @@ show_with _ _ = None
 
 abbrev pub show_request : List Row → Option Request
 show_request rows = show_with (first_of (codes "file") rows) (number_of Limit rows)
+
+abbrev pub tail_with : Option Text → Option ℕ → Option Request
+tail_with (Some file) (Some limit) = Some (Tail (named_by (Some file)) limit)
+tail_with _ _ = None
+
+abbrev pub tail_request : List Row → Option Request
+tail_request rows = tail_with (first_of (codes "file") rows) (number_of Limit rows)
 
 -- a flag was given
 abbrev pub is_set : Text → List Row → Bool
@@ -540,10 +547,13 @@ infinite = record {
   exclusion = infinite_exclusion;
 }
 
+abbrev pub tail : Asking
+tail = record { app = Program.tail; request = tail_request; numbers = λ rows. Limit ∷ []; conflicts = never; exclusion = untold }
+
 abbrev pub commands : List Asking
 commands =
     check ∷ solve ∷ series ∷ show ∷ describe ∷ play ∷ compare ∷ certify ∷ explain ∷ present
-    ∷ catalogue ∷ desk ∷ infinite ∷ []
+    ∷ catalogue ∷ desk ∷ infinite ∷ tail ∷ []
 
 abbrev pub command_named : Text → Option Asking
 command_named name = find (λ c. bytes_eq c.app.top.name name) commands

@@ -3,7 +3,7 @@ ghost use Rattle.std.specs.Prelude.{◌≡◌, ◌≢◌, None, Some, false, IfO
 ghost use Rattle.command_line.specs.Plans.{HasNumbersWithin};
 ghost use Rattle.command_line.specs.Refusals.{Answers, IsMistake, IsMistakeIn, conflicts_in};
 ghost use Rattle.command_line.specs.Requests.{arguments_of, certify, check, compare, describe, describe_conflicts, desk, explain, infinite, is_set, layout_conflicts, layout_in, output_in, play};
-ghost use Rattle.command_line.specs.Requests.{present, request_in, show};
+ghost use Rattle.command_line.specs.Requests.{present, request_in, show, tail};
 ghost use Rattle.command_line.specs.Requests.{explain_conflicts, word_given, word_in, word_request_of};
 ghost use Rattle.command_line.specs.Wanted.{IsAskedIn};
 ghost use Rattle.requests.specs.Requests.{request_of};
@@ -32,6 +32,14 @@ fn show_plan<'a>(given: &ArgMatches<'a>) -> Result<Plan<'a>, UsageFault>
     let file = named_by(Some(needed(given, "file")?));
     let limit = number(given, Quantity::Limit)?;
     Ok(Plan::Show { file, limit })
+}
+
+fn tail_plan<'a>(given: &ArgMatches<'a>) -> Result<Plan<'a>, UsageFault>
+    ensures { Answers tail (arguments_of given.now) result }
+{
+    let file = named_by(Some(needed(given, "file")?));
+    let limit = number(given, Quantity::Limit)?;
+    Ok(Plan::Tail { file, limit })
 }
 
 /// What is to be printed of a quotient.
@@ -246,6 +254,7 @@ fn command_plan<'a>(
         "catalogue" => catalogue_plan(given),
         "desk" => desk_plan(given),
         "infinite" => infinite_plan(given),
+        "tail" => tail_plan(given),
         _ => Err(UsageFault::Incomplete),
     }
 }

@@ -2,7 +2,7 @@
 ghost use Rattle.std.specs.Prelude.{◌≡◌, ◌++◌, ◌∷◌, [], List, IfOk, codes, false, true};
 ghost use Rattle.clap.specs.Words.{App, Rule, Text, app_of, new_app, rule_of, with_subcommand};
 ghost use Rattle.command_line.specs.Program.{catalogue, certify, check, command, compare, describe, desk, explain, flag, infinite, misere, needed};
-ghost use Rattle.command_line.specs.Program.{option, optional, play, present, program, series, several, show, solve};
+ghost use Rattle.command_line.specs.Program.{option, optional, play, present, program, series, several, show, solve, tail};
 
 use clap::{Arg, ArgAction, Command};
 use std::alloc::{AllocError, Global};
@@ -334,6 +334,16 @@ fn with<'a>(
     program.subcommand(command)
 }
 
+fn tail_command<'a>(alloc: Global) -> Result<Command<'a>, AllocError>
+    ensures { IfOk result (λ c. app_of c ≡ tail) }
+{
+    let about =
+        "Check a partial certificate, and say beyond which heap its whole game is normal play";
+    let made = Ok(command(alloc, "tail", about));
+    let made = with_arg(made, needed(alloc, "file", "FILE", NAMED));
+    with_arg(made, limit(alloc))
+}
+
 /// The program's command line.
 pub fn program_command<'a>(alloc: Global) -> Result<Command<'a>, AllocError>
     ensures { IfOk result (λ c. app_of c ≡ program) }
@@ -351,5 +361,6 @@ pub fn program_command<'a>(alloc: Global) -> Result<Command<'a>, AllocError>
     let program = with(program, present_command(alloc));
     let program = with(program, catalogue_command(alloc));
     let program = with(program, desk_command(alloc));
-    with(program, infinite_command(alloc))
+    let program = with(program, infinite_command(alloc));
+    with(program, tail_command(alloc))
 }

@@ -8,7 +8,7 @@ use Rattle.describe_command.specs.Described.Describes.{Quotient, NoQuotient}
 use Rattle.requests.specs.declared.plans.Output.{Output}
 use Rattle.requests.specs.declared.plans.Output.TheVariants.{Description, Latex, Json, Relations, Singular, Gap}
 use Rattle.requests.specs.Requests.{Request}
-use Rattle.requests.specs.Requests.Request.{Check, Solve, SolveMany, SolveLines, Series, Show, Describe, Play, PlayLines, Present, Catalogue, Desk}
+use Rattle.requests.specs.Requests.Request.{Check, Solve, SolveMany, SolveLines, Series, Show, Tail, Describe, Play, PlayLines, Present, Catalogue, Desk}
 use Rattle.requests.specs.Requests.Request.{Explain, Compare, Certify, SolveInfinite, Infinite, ShowInfinite, PlayInfinite, PlayInfiniteLines}
 
 -- what has no text is nothing
@@ -42,6 +42,7 @@ module _ (input : Option (List ℕ)) (before after : Option (List ℕ → Option
   plainly (SolveInfinite code bounds) text succeeds h = (h, refl)
   plainly (Series code bounds) text succeeds h = (h, refl)
   plainly (Show file limit) text succeeds h = (h, refl)
+  plainly (Tail file limit) text succeeds h = (h, refl)
   plainly (Describe file output basis limit) text succeeds h = absurd h
   plainly (Play file position limit) text succeeds h = (h, refl)
   plainly (PlayLines file limit) text succeeds h = (h, refl)
@@ -67,6 +68,7 @@ module _ (input : Option (List ℕ)) (before after : Option (List ℕ → Option
   silent (SolveInfinite code bounds) text succeeds told e h = h.1
   silent (Series code bounds) text succeeds told e h = h.1
   silent (Show file limit) text succeeds told e h = h.1
+  silent (Tail file limit) text succeeds told e h = h.1
   silent (Describe file output basis limit) text succeeds told e h =
       silent_description _ file output basis limit text succeeds told e h
   silent (Play file position limit) text succeeds told e h = h.1

@@ -14,7 +14,7 @@ use Rattle.play_command.specs.Many.{IsPlayLinesCause}
 use Rattle.play_command.specs.Plays.{IsPlayCause}
 use Rattle.requests.specs.declared.plans.Output.TheVariants.{Relations}
 use Rattle.requests.specs.Requests.{Request}
-use Rattle.requests.specs.Requests.Request.{Check, Solve, SolveMany, SolveLines, Series, Show, Describe, Play, PlayLines, Present, Catalogue, Desk}
+use Rattle.requests.specs.Requests.Request.{Check, Solve, SolveMany, SolveLines, Series, Show, Tail, Describe, Play, PlayLines, Present, Catalogue, Desk}
 use Rattle.requests.specs.Requests.Request.{Explain, Compare, Certify, SolveInfinite, Infinite, ShowInfinite, PlayInfinite, PlayInfiniteLines}
 use Rattle.solve_command.specs.Solved.{IsSolveCause}
 use Rattle.streams.specs.declared.source.Source as source
@@ -53,6 +53,8 @@ IsCause input (SolveInfinite code bounds) before after stop = IsSolveCause code 
 IsCause input (Series code bounds) before after stop = IsSolveCause code stop
 IsCause input (Show file limit) before after stop =
     IsGivenCause file (given before) (given after) stop
+IsCause input (Tail file limit) before after stop =
+    IsGivenCause file (given before) (given after) stop
 IsCause input (Describe file output basis limit) before after stop =
     IsGivenCause file (given before) (given after) stop
 IsCause input (Play file position limit) before after stop =
@@ -82,6 +84,7 @@ abbrev pub reads_input : Option Request → Bool
 reads_input (Some (Check file limit)) = is_none file
 reads_input (Some (Explain file)) = is_none file
 reads_input (Some (Show file limit)) = is_none file
+reads_input (Some (Tail file limit)) = is_none file
 reads_input (Some (Describe file output basis limit)) = is_none file
 reads_input (Some (Play file position limit)) = is_none file
 reads_input (Some (PlayLines file limit)) = true
@@ -99,6 +102,7 @@ abbrev pub takes_files : Option Request → Bool
 takes_files (Some (Check file limit)) = is_some file
 takes_files (Some (Explain file)) = is_some file
 takes_files (Some (Show file limit)) = is_some file
+takes_files (Some (Tail file limit)) = is_some file
 takes_files (Some (Describe file output basis limit)) = is_some file
 takes_files (Some (Play file position limit)) = is_some file
 takes_files (Some (PlayLines file limit)) = true

@@ -16,10 +16,11 @@ use Rattle.play_command.specs.Many.{AreFileOf, PlaysLines}
 use Rattle.play_command.specs.Plays.{Plays}
 use Rattle.present_command.specs.Presented.{Presents}
 use Rattle.requests.specs.Requests.{Request}
-use Rattle.requests.specs.Requests.Request.{Check, Solve, SolveMany, SolveLines, Series, Show, Describe, Play, PlayLines, Present, Catalogue, Desk}
+use Rattle.requests.specs.Requests.Request.{Check, Solve, SolveMany, SolveLines, Series, Show, Tail, Describe, Play, PlayLines, Present, Catalogue, Desk}
 use Rattle.requests.specs.Requests.Request.{Explain, Compare, Certify, SolveInfinite, Infinite, ShowInfinite, PlayInfinite, PlayInfiniteLines}
 use Rattle.series_command.specs.Series.{IsSeries}
 use Rattle.show_command.specs.Shown.{Shows}
+use Rattle.tail_command.specs.Lines.{Tails}
 use Rattle.solve_command.specs.Many.{AnswersCodes, SolvesLines}
 use Rattle.solve_command.specs.Solved.{Solves}
 use Rattle.solve_infinite_command.specs.Found.{IsFound}
@@ -43,6 +44,8 @@ Says input before after (SolveInfinite code bounds) text succeeds =
 Says input before after (Series code bounds) text succeeds = IsSeries code bounds text succeeds
 Says input before after (Show file limit) text succeeds =
     Shows (AreGiven input before file) limit text succeeds
+Says input before after (Tail file limit) text succeeds =
+    Tails (AreGiven input before file) limit text succeeds
 Says input before after (Describe file output basis limit) text succeeds = ⊥
 Says input before after (Play file position limit) text succeeds =
     Plays (AreGiven input before file) limit position text succeeds

@@ -26,6 +26,7 @@ use solve_command::{solve, solve_lines, solve_many};
 use solve_infinite_command::solve_infinite;
 use std::alloc::Global;
 use streams::Source;
+use tail_command::tail;
 
 /// The form of relations that is asked for.
 fn form_of(basis: bool) -> Form
@@ -101,6 +102,7 @@ fn say<'a, F: Folder, S: Source>(
         Plan::Check { file, limit } => check(alloc, file, limit, folder, input),
         Plan::Explain { file } => explain(alloc, file, folder, input),
         Plan::Show { file, limit } => show(alloc, file, limit, folder, input),
+        Plan::Tail { file, limit } => tail(alloc, file, limit, folder, input),
         Plan::Play {
             file,
             position,

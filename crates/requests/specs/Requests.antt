@@ -29,6 +29,7 @@ pub data Request : Type 0 where
   SolveInfinite : List ℕ → PartsBounds → Request
   Series : List ℕ → PartsBounds → Request
   Show : Option (List ℕ) → ℕ → Request
+  Tail : Option (List ℕ) → ℕ → Request
   Describe : Option (List ℕ) → Output → Bool → ℕ → Request
   Play : Option (List ℕ) → List ℕ → ℕ → Request
   PlayLines : List ℕ → ℕ → Request
@@ -63,6 +64,7 @@ request_of (plan.SolveLines bounds) = SolveLines bounds
 request_of (plan.SolveInfinite code bounds) = SolveInfinite code.now bounds
 request_of (plan.Series code bounds) = Series code.now bounds
 request_of (plan.Show file limit) = Show (option_map (λ f. f.now) file) limit
+request_of (plan.Tail file limit) = Tail (option_map (λ f. f.now) file) limit
 request_of (plan.Describe file output basis limit) =
     Describe (option_map (λ f. f.now) file) output basis limit
 request_of (plan.Play file position limit) =

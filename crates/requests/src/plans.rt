@@ -83,6 +83,12 @@ pub enum Plan<'a> {
         file: Option<&'a str>,
         limit: u32,
     },
+    /// Print beyond which heap the whole game is normal play whose heaps the file, or standard input
+    /// where no file is named, certifies under the limit.
+    Tail {
+        file: Option<&'a str>,
+        limit: u32,
+    },
     /// Describe the quotient that the file certifies under the limit, or standard input where no file
     /// is named, by the reduced basis of its relations or else by a short list.
     Describe {

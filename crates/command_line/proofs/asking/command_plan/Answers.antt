@@ -34,9 +34,10 @@ unnamed : (name : Text) → (name ≡ codes "check" → ⊥) → (name ≡ codes
     → (name ≡ codes "series" → ⊥) → (name ≡ codes "show" → ⊥) → (name ≡ codes "describe" → ⊥)
     → (name ≡ codes "play" → ⊥) → (name ≡ codes "compare" → ⊥) → (name ≡ codes "certify" → ⊥)
     → (name ≡ codes "explain" → ⊥) → (name ≡ codes "present" → ⊥) → (name ≡ codes "catalogue" → ⊥)
-    → (name ≡ codes "desk" → ⊥) → (name ≡ codes "infinite" → ⊥) → command_named name ≡ None
+    → (name ≡ codes "desk" → ⊥) → (name ≡ codes "infinite" → ⊥) → (name ≡ codes "tail" → ⊥)
+    → command_named name ≡ None
 unnamed name check solve series show describe play compare certify explain present catalogue desk
-    infinite =
+    infinite tail =
     passed _ _ _ (other name (codes "check") check)
     (passed _ _ _ (other name (codes "solve") solve)
     (passed _ _ _ (other name (codes "series") series)
@@ -49,7 +50,8 @@ unnamed name check solve series show describe play compare certify explain prese
     (passed _ _ _ (other name (codes "present") present)
     (passed _ _ _ (other name (codes "catalogue") catalogue)
     (passed _ _ _ (other name (codes "desk") desk)
-    (passed _ _ _ (other name (codes "infinite") infinite) refl))))))))))))
+    (passed _ _ _ (other name (codes "infinite") infinite)
+    (passed _ _ _ (other name (codes "tail") tail) refl)))))))))))))
 
 -- what the command of the name answers
 module _ (name : Text) (rows : List Row) (command : Asking) (is : command_named name ≡ Some command)
@@ -99,7 +101,7 @@ returns-in_default-clause-nothing c = λ _.
     c.in_default.not-series c.in_default.not-show c.in_default.not-describe
     c.in_default.not-play c.in_default.not-compare c.in_default.not-certify
     c.in_default.not-explain c.in_default.not-present c.in_default.not-catalogue
-    c.in_default.not-desk c.in_default.not-infinite)
+    c.in_default.not-desk c.in_default.not-infinite c.in_default.not-tail)
 
 pub returns-in_default-clause-fault : goal.returns-in_default-clause-fault
 returns-in_default-clause-fault c = λ _.
@@ -108,4 +110,4 @@ returns-in_default-clause-fault c = λ _.
     c.in_default.not-series c.in_default.not-show c.in_default.not-describe
     c.in_default.not-play c.in_default.not-compare c.in_default.not-certify
     c.in_default.not-explain c.in_default.not-present c.in_default.not-catalogue
-    c.in_default.not-desk c.in_default.not-infinite)) refl
+    c.in_default.not-desk c.in_default.not-infinite c.in_default.not-tail)) refl

@@ -1,5 +1,5 @@
 use Rattle.std.proofs.Common.{refl}
-use Rattle.command_line.specs.Program.{catalogue, certify, check, compare, describe, desk, explain, infinite, misere, play, present, series, show, solve}
+use Rattle.command_line.specs.Program.{catalogue, certify, check, compare, describe, desk, explain, infinite, misere, play, present, series, show, solve, tail}
 use Rattle.command_line.proofs.commands.program_command.Goals as goal
 
 pub returns : goal.returns
@@ -17,4 +17,5 @@ returns c =
     let ten = c.with-program-10.ensures _ present nine c.present_command.ensures refl in
     let eleven = c.with-program-11.ensures _ catalogue ten c.catalogue_command.ensures refl in
     let twelve = c.with-program-12.ensures _ desk eleven c.desk_command.ensures refl in
-    c.with.ensures _ infinite twelve c.infinite_command.ensures refl
+    let thirteen = c.with-program-13.ensures _ infinite twelve c.infinite_command.ensures refl in
+    c.with.ensures _ tail thirteen c.tail_command.ensures refl
