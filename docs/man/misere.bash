@@ -5,8 +5,8 @@ _misere() {
         case ${COMP_WORDS[i]} in -*) ;; *) command=${COMP_WORDS[i]}; break ;; esac
     done
     case $command in
-        '') options="check solve series show describe play compare certify explain present catalogue desk infinite help --help --version" ;;
-        help) options="check solve series show describe play compare certify explain present catalogue desk infinite help" ;;
+        '') options="check solve series show describe play compare certify explain present catalogue desk infinite tail help --help --version" ;;
+        help) options="check solve series show describe play compare certify explain present catalogue desk infinite tail help" ;;
         check) options="--limit --help" ;;
         solve) options="--limit --rounds --heaps --deep --any --partial --furthest --order --why --infinite --help" ;;
         series) options="--order --heaps --limit --help" ;;
@@ -20,6 +20,7 @@ _misere() {
         catalogue) options="--new --add --get --heaps --salvage --migrate --table --json --limit --help" ;;
         desk) options="--help" ;;
         infinite) options="--show --latex --json --limit --help" ;;
+        tail) options="--limit --help" ;;
     esac
     COMPREPLY=()
     case $before in
@@ -34,6 +35,6 @@ _misere() {
         COMPREPLY=($(compgen -W "$options" -- "$word"))
         return
     fi
-    case $command in check | show | describe | play | compare | certify | explain | catalogue | desk | infinite) COMPREPLY=($(compgen -f -- "$word")) ;; esac
+    case $command in check | show | describe | play | compare | certify | explain | catalogue | desk | infinite | tail) COMPREPLY=($(compgen -f -- "$word")) ;; esac
 }
 complete -o filenames -F _misere misere
