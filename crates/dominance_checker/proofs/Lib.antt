@@ -1,5 +1,6 @@
 pub mod Mapped
 pub mod Repeats
 pub mod Results
+pub mod Said
 pub mod Claims
 pub mod Laps

@@ -10,6 +10,7 @@ mod passing;
 mod ranges;
 mod rank;
 mod rulers;
+mod saying;
 mod settling;
 mod shape;
 mod side;
@@ -18,4 +19,5 @@ mod testing;
 
 pub use answer::is_accepted;
 pub use rank::Rank;
+pub use saying::is_said_p;
 pub use shape::Shape;
