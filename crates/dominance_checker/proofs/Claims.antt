@@ -1,15 +1,14 @@
 -- What the numbers are tested for is what is tested of the claim.
-use Rattle.std.proofs.Common.{◌≡◌, ◌≢◌, ℕ, ◌+◌, ◌-◌, ◌*◌, ◌<◌, ◌≤◌, ◌⊎◌, Bool, true, false, List, [], ◌∷◌, length, map, refl, sym, ◌∙◌, ap, subst, inl, inr, arith, Contains, All, nat_le, IsPermutation}
+use Rattle.std.proofs.Common.{◌≡◌, ◌≢◌, ℕ, ◌+◌, ◌<◌, ◌≤◌, ◌⊎◌, true, List, [], ◌∷◌, length, map, refl, sym, ◌∙◌, ap, subst, inl, inr, arith, Contains, nat_le, IsPermutation}
 use Rattle.std.proofs.lemmas.List.{get_or_past}
 use Rattle.std.proofs.lemmas.List.Elements.{All-contains}
 use Rattle.std.proofs.lemmas.Bool.Decides.{nat_tests}
-use native.Mathlib.Decide.{dec_lt}
-use Rattle.misere_theory.specs.Games.{HeapOption, IsHeap, digit}
-use Rattle.misere_theory.proofs.Shuffles.{Shuffled, from_permutation}
+use Rattle.misere_theory.specs.Games.{HeapOption}
+use Rattle.misere_theory.proofs.Shuffles.{from_permutation}
 use Rattle.heap_options.specs.Exact.{heaps_of, IsInOrder}
 use Rattle.heap_options.specs.Options.{options_of, options_up_to}
 use Rattle.heap_options.specs.declared.left.Left.{Left}
-use Rattle.dominance.specs.Triples.{Triple, xor, times, is_p, IsElement, triple_of}
+use Rattle.dominance.specs.Triples.{Triple, xor, times, is_p, triple_of}
 use Rattle.dominance.specs.Tested.{Change, AreApart, MayStandBeside, IsStateOf, IsSettled, AreClosed, IsHeapChange, IsWithin, together, size_of}
 use Rattle.dominance.specs.Tested.{State as Known}
 use Rattle.dominance.specs.Finite.{IsExtent, AreTestedBelow, is_listed, heaps_from}
@@ -23,8 +22,8 @@ use Rattle.dominance_checker.specs.declared.side.Side.{Side}
 use Rattle.dominance_checker.specs.declared.state.State.{State}
 use Rattle.dominance_checker.specs.Ranks.{triple_in, label_by}
 use Rattle.dominance_checker.specs.Sides.{side_by, sides_by}
-use Rattle.dominance_checker.specs.States.{has_change, state_in, standing, with_change, IsSideState, IsSideSettled, IsSettledBelow, HasStateWithin, HasStatesWithin, AreStatesClosed}
-use Rattle.dominance_checker.specs.Passed.{IsSideApart, HasKind, IsPassed, IsHeapPassed, LosesFew, extent_in, AreNumbers, IsClaimTested}
+use Rattle.dominance_checker.specs.States.{has_change, state_in, standing, with_change, IsSideSettled, IsSettledBelow, HasStateWithin, HasStatesWithin}
+use Rattle.dominance_checker.specs.Passed.{IsSideApart, IsHeapPassed, LosesFew, extent_in, IsClaimTested}
 use Rattle.dominance_checker.proofs.Mapped.{mapped, unmapped}
 use Rattle.dominance_checker.proofs.Repeats.{repeats}
 

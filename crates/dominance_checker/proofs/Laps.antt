@@ -1,5 +1,5 @@
 -- A heap with a lead, and those some periods on, have leads of any height.
-use Rattle.std.proofs.Common.{◌≡◌, ℕ, zero, suc, ◌+◌, ◌*◌, ◌<◌, ◌≤◌, ◌⊎◌, List, inl, inr, arith}
+use Rattle.std.proofs.Common.{ℕ, zero, suc, ◌+◌, ◌<◌, ◌≤◌, List, inl, inr, arith}
 use Rattle.dominance.specs.Quotient.{IsTurning, IsWaiting, HasRulers}
 use Rattle.dominance_checker.specs.declared.rank.Rank.{Rank}
 use Rattle.dominance_checker.specs.declared.shape.Shape.{Shape}

@@ -3,4 +3,5 @@ pub mod Repeats
 pub mod Results
 pub mod Said
 pub mod Claims
+pub mod Claimed
 pub mod Laps

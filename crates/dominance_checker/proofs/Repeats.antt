@@ -1,5 +1,5 @@
 -- From start on the triples that the numbers say repeat, up to the rise.
-use Rattle.std.proofs.Common.{◌≡◌, ℕ, ◌+◌, ◌-◌, ◌*◌, ◌/◌, ◌%◌, ◌<◌, ◌≤◌, ◌⊎◌, ◌==◌, nat_lt, Bool, true, false, if◌then◌else◌, List, refl, sym, ◌∙◌, ap, ap₂, subst, inl, inr, arith, le-ltb, eq-zero-or-pos, div-add-mod', mod-lt}
+use Rattle.std.proofs.Common.{◌≡◌, ℕ, ◌+◌, ◌-◌, ◌*◌, ◌/◌, ◌%◌, ◌≤◌, Bool, if◌then◌else◌, List, refl, sym, ◌∙◌, ap, ap₂, subst, inl, inr, arith, le-ltb, eq-zero-or-pos}
 use Rattle.std.proofs.Math.Nat.{add-mod_left, add-div_left}
 use Rattle.std.proofs.lemmas.Bool.Decides.{nat_tests}
 use Rattle.dominance.specs.Triples.{Triple}
@@ -22,7 +22,7 @@ more_raised u r t = (
 )
 
 module _ (s : Shape) (ranks : List Rank) (some : 1 ≤ s.period) where
-  label_from : (n : ℕ) → s.start ≤ n
+  pub label_from : (n : ℕ) → s.start ≤ n
       → label_by s ranks n
       ≡ raised_by (s.rise * ((n - s.start) / s.period))
       (triple_in (rank_at ranks (s.start + (n - s.start) % s.period)))

@@ -1,5 +1,5 @@
 -- The triple of one heap more.
-use Rattle.std.proofs.Common.{◌≡◌, ℕ, ◌+◌, ◌<◌, List, [], ◌∷◌, ◌++◌, length, get_or, take, ◌∙◌, ap}
+use Rattle.std.proofs.Common.{◌≡◌, ℕ, ◌+◌, ◌<◌, List, [], ◌∷◌, length, get_or, take, ◌∙◌, ap}
 use Rattle.std.proofs.lemmas.List.{take_more}
 use Rattle.dominance.specs.Triples.{Triple, times, triple_of}
 use Rattle.dominance.proofs.Positions.{triple-append, triple_alone}

@@ -1,5 +1,5 @@
 -- What is tested of each heap of a claim, and of its numbers.
-use Rattle.std.specs.Prelude.{◌≡◌, ◌≢◌, ℕ, ◌+◌, ◌*◌, ◌%◌, ◌<◌, ◌≤◌, ◌⊎◌, true, List, map, length, Contains, All}
+use Rattle.std.specs.Prelude.{◌≡◌, ◌≢◌, ℕ, ◌+◌, ◌*◌, ◌%◌, ◌<◌, ◌≤◌, ◌⊎◌, true, List, length, Contains, All}
 use Rattle.dominance.specs.Triples.{IsElement}
 use Rattle.dominance.specs.Tested.{Change, AreApart}
 use Rattle.dominance.specs.Finite.{Extent, IsFar}

@@ -4,6 +4,7 @@
 mod answer;
 mod closing;
 mod heap;
+mod laws;
 mod making;
 mod numbers;
 mod passing;
@@ -18,6 +19,7 @@ mod state;
 mod testing;
 
 pub use answer::is_accepted;
+pub use laws::claims_are_by_ranks;
 pub use rank::Rank;
 pub use saying::is_said_p;
 pub use shape::Shape;

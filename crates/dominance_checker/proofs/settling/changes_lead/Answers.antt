@@ -1,4 +1,4 @@
-use Rattle.std.proofs.Common.{rules, ◌≡◌, true, false}
+use Rattle.std.proofs.Common.{rules, true, false}
 use Rattle.dominance_checker.proofs.settling.changes_lead.Goals as goal
 
 pub returns-then-change_leads : goal.returns-then-change_leads

@@ -1,5 +1,4 @@
-use Rattle.std.proofs.Common.{rules, arith, ◌≡◌, ◌≤◌, true, false}
-use Rattle.dominance_checker.specs.States.{has_change}
+use Rattle.std.proofs.Common.{rules, arith, ◌≤◌, true, false}
 use Rattle.dominance_checker.proofs.settling.loses_at_most.Goals as goal
 
 pub returns-then-weight-lost : goal.returns-then-weight-lost

@@ -1,4 +1,4 @@
-use Rattle.std.proofs.Common.{rules, map}
+use Rattle.std.proofs.Common.{map}
 use Rattle.std.specs.Prelude.{IsTrue}
 use Rattle.dominance.specs.Quotient.{ArePredicting}
 use Rattle.dominance_checker.specs.Ranks.{label_by}
