@@ -1,5 +1,5 @@
 -- What stands beside a heap is tried up to some weight: two more don't matter then.
-use Rattle.std.proofs.Common.{true, ◌≡◌, ℕ, zero, suc, ◌+◌, ◌-◌, ◌*◌, ◌<◌, ◌≤◌, Bool, List, refl, sym, ◌∙◌, ap, inl, inr, arith, Contains}
+use Rattle.std.proofs.Common.{true, ◌≡◌, ℕ, zero, suc, ◌+◌, ◌-◌, ◌*◌, ◌<◌, ◌≤◌, Bool, List, refl, sym, ◌∙◌, ap, inl, inr, arith}
 use native.Mathlib.Decide.{dec_le}
 use Rattle.misere_theory.specs.Games.{HeapOption}
 use Rattle.dominance.specs.Triples.{Triple, xor, times, is_p, IsElement, triple_of}

@@ -1,5 +1,5 @@
 -- Triples that are raised by an even number: what stays as it is.
-use Rattle.std.proofs.Common.{true, ◌≡◌, ℕ, ◌+◌, ◌-◌, ◌%◌, ◌<◌, ◌≤◌, ◌⊎◌, sym, ◌∙◌, ap, inl, inr, arith, Contains}
+use Rattle.std.proofs.Common.{true, ◌≡◌, ℕ, ◌+◌, ◌-◌, ◌%◌, ◌<◌, ◌≤◌, ◌⊎◌, sym, ◌∙◌, ap, inl, inr, arith}
 use Rattle.std.specs.Cmp.{both_ways}
 use Rattle.std.proofs.lemmas.Bool.Decides.{nat_tests}
 use native.Mathlib.Decide.{dec_lt}

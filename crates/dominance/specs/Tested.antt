@@ -1,5 +1,5 @@
 -- What is tested of a claim that gives each heap a triple. This project's own.
-use Rattle.std.specs.Prelude.{◌≡◌, ◌≢◌, ℕ, ◌+◌, ◌-◌, ◌*◌, ◌%◌, ◌<◌, ◌≤◌, ◌==◌, max, ◌⊎◌, Bool, true, false, ◌||◌, if◌then◌else◌, List, [], ◌++◌, Contains}
+use Rattle.std.specs.Prelude.{◌≡◌, ◌≢◌, ℕ, ◌+◌, ◌-◌, ◌*◌, ◌%◌, ◌<◌, ◌≤◌, ◌==◌, max, ◌⊎◌, Bool, true, false, ◌||◌, if◌then◌else◌, List, Contains}
 use Rattle.misere_theory.specs.Games.{HeapOption, IsHeap}
 use Rattle.dominance.specs.Triples.{Triple, xor, times, is_p, parity_fits, IsElement, triple_of}
 
