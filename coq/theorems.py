@@ -18,7 +18,7 @@ from collections.abc import Iterable, Iterator
 here = pathlib.Path(__file__).resolve().parent
 sys.path.insert(0, str(here.parent / "scripts"))
 
-HEAD = "From Ravenargent Require Import Main Converse Faults Answers InfiniteRight.\nOpen Scope N_scope.\n"
+HEAD = "From Ravenargent Require Import Main Converse Faults Answers Infinite Shown.\nOpen Scope N_scope.\n"
 CLOSED = "Closed under the global context"
 FAULTS = ("Text", "Law", "Word", "Order", "Period", "Apart", "Outcome")  # as coq/Faults.v names what a text has
 
@@ -64,8 +64,8 @@ class Text:
         """The text as Coq has it, and the theorem."""
         text = f"\nDefinition text_of_{self.name} : text := {literal(self.text)}.\n\n"
         if not self.right and self.is_infinite:
-            said = f"Theorem {self.theorem} : accepts_infinite text_of_{self.name} = false.\n"
-            return text + said + "Proof. vm_cast_no_check (eq_refl false). Time Qed.\n"
+            said = f"Theorem {self.theorem} : shown_by text_of_{self.name} = None.\n"
+            return text + said + "Proof. vm_cast_no_check (eq_refl (@None (code * N))). Time Qed.\n"
         if self.fault:
             said = f"Theorem {self.theorem} : is_true_of text_of_{self.name} {self.fault}.\n"
             return text + said + f"Proof. apply verdict_right. vm_cast_no_check (eq_refl {self.fault}). Time Qed.\n"
@@ -76,7 +76,8 @@ class Text:
         if self.is_infinite:
             game = f"[{digits}] {self.last_heap}"
             said = f"Theorem {self.theorem} : infinite {game} /\\ no_finite_quotient {game}.\n"
-            proof = f"apply (check_infinite_sound text_of_{self.name}). vm_cast_no_check (eq_refl true)"
+            shown = f"(eq_refl (Some ([{digits}], {self.last_heap})))"
+            proof = f"apply (shown_by_right text_of_{self.name}). vm_cast_no_check {shown}"
             return text + said + f"Proof. {proof}. Time Qed.\n"
         kind = f"(UpTo {self.last_heap})" if self.last_heap else "Whole"
         said = f"Theorem {self.theorem} : certifies text_of_{self.name} {kind} [{digits}].\n"
