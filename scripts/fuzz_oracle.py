@@ -1,0 +1,129 @@
+"""For scripts/fuzz --oracle: changed certificates, of which misere and the program that is extracted from coq/ say the
+same. The second has been proved right by Coq, so what differs is a fault of the first."""
+
+from __future__ import annotations
+
+import json
+import pathlib
+import random
+import re
+import subprocess
+import sys
+import tempfile
+from collections import Counter
+from collections.abc import Iterable
+from concurrent.futures import ProcessPoolExecutor
+from dataclasses import dataclass
+from itertools import repeat
+
+sys.dont_write_bytecode = True
+import third_texts
+from fuzz_texts import changed
+from script import root
+
+CHECKER = root / "coq/out/checker"
+SECONDS = 60
+LARGEST = 100  # the order above which a text isn't changed: with tracks each one takes seconds
+NUMBERED = re.compile(rb"(?m)^(phi|portion|words|row|apart|track|base|up|down|start|period) .*$")
+
+
+def are_small(texts: Iterable[bytes]) -> list[bytes]:
+    return [it for it in texts if (order := re.search(rb"(?m)^order (\d+)$", it)) and int(order[1]) <= LARGEST]
+
+
+def small_finite() -> list[bytes]:
+    """The certificates of the atlas of small orders, and now and then one of the third format."""
+    catalogues = [json.loads((root / f"atlas/{name}.json").read_text()) for name in ("octal", "hexadecimal")]
+    texts = are_small(entry["certificate"].encode() for it in catalogues for entry in it["entries"])
+    return texts + [text.encode() for text in third_texts.small()] * (len(texts) // 16)
+
+
+def small_infinite() -> list[bytes]:
+    """The certificates of infinite quotients of small orders."""
+    files = [*sorted(root.glob("certificates/*.mqi")), *sorted(root.glob("atlas/infinite/*.mqi"))]
+    return are_small(file.read_bytes() for file in files)
+
+
+def nudged(text: bytes, chance: random.Random) -> bytes:
+    """The text with one number a little larger or smaller, or as another one of its line, so that most are in range;
+    or with two lines exchanged that have one name."""
+    named: dict[bytes, list[re.Match[bytes]]] = {}
+    for line in NUMBERED.finditer(text):
+        named.setdefault(line[1], []).append(line)
+    if not named:
+        return text
+    lines = named[chance.choice(sorted(named))]
+    line = chance.choice(lines)
+    if len(lines) > 1 and chance.randrange(6) == 0:
+        one, two = sorted(chance.sample(lines, 2), key=lambda it: it.start())
+        return text[: one.start()] + two[0] + text[one.end() : two.start()] + one[0] + text[two.end() :]
+    numbers = list(re.finditer(rb"\d+", line[0]))
+    if not numbers:
+        return text
+    it, at = chance.choice(numbers), line.start()
+    number = int(it[0])
+    new = chance.choice([b"%d" % (number + 1), b"%d" % max(0, number - 1), chance.choice(numbers)[0]])
+    return text[: at + it.start()] + new + text[at + it.end() :]
+
+
+def damaged(samples: list[bytes], chance: random.Random) -> bytes:
+    """A sample with one to three changes, most of them small."""
+    text = chance.choice(samples)
+    for _ in range(chance.choice((1, 1, 2, 3))):
+        text = changed(text, chance) if chance.randrange(4) == 0 else nudged(text, chance)
+    return text
+
+
+def line_of(words: list[str | pathlib.Path]) -> str:
+    """The first line that a program prints."""
+    try:
+        run = subprocess.run(words, capture_output=True, timeout=SECONDS, check=False)
+    except subprocess.TimeoutExpired:
+        return "no end"
+    return (run.stdout.decode(errors="replace").splitlines() or [f"status {run.returncode}"])[0]
+
+
+@dataclass(frozen=True)
+class Oracle:
+    """Two programs, and the texts that are changed for them."""
+
+    program: str
+    samples: list[bytes]
+    infinite: list[bytes]
+
+    def look(self, seed: int, is_infinite: bool) -> tuple[str, str, int]:
+        """What misere says of a changed text, what the other program says, and the seed."""
+        text = damaged(self.infinite if is_infinite else self.samples, random.Random(seed))
+        with tempfile.TemporaryDirectory() as folder:
+            file = pathlib.Path(folder, "text")
+            file.write_bytes(text)
+            said = line_of([self.program, "infinite" if is_infinite else "check", file])
+            other = line_of([CHECKER, file])
+        if is_infinite:
+            said, other = ("no" if it.startswith("no ") else it for it in (said, other))
+        return said, other, seed
+
+
+def kind_of(line: str) -> str:
+    """The line without the certificate of which it tells."""
+    return line if line.startswith("no") else line.split(" ")[0]
+
+
+def look_at(oracle: Oracle, seed: int, count: int, is_infinite: bool) -> int:
+    """Looks at so many changed texts and tells what was said of them. How many differ.
+
+    A check that is given up at its limit isn't compared, nor one that has no end in a minute: these are counted.
+    """
+    answers: Counter[str] = Counter()
+    wrong = 0
+    with ProcessPoolExecutor() as pool:
+        seeds = range(seed, seed + count)
+        for said, other, at in pool.map(Oracle.look, repeat(oracle), seeds, repeat(is_infinite), chunksize=8):
+            is_given_up = "no end" in (said, other) or said == "no 8 Limit"
+            answers["not compared" if is_given_up else kind_of(said)] += 1
+            if said != other and not is_given_up:
+                wrong += 1
+                print(f"seed {at}: {said!r}, and by coq/ {other!r}", flush=True)
+    told = ", ".join(f"{number} {answer}" for answer, number in sorted(answers.items()))
+    print(f"{count} changed texts {'with' if is_infinite else 'without'} tracks: {told}; {wrong} differ", flush=True)
+    return wrong
