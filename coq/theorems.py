@@ -13,7 +13,8 @@ import re
 import resource
 import subprocess
 import sys
-from collections.abc import Iterable, Iterator
+from collections.abc import Iterable, Iterator, Sequence
+from typing import Protocol
 
 here = pathlib.Path(__file__).resolve().parent
 sys.path.insert(0, str(here.parent / "scripts"))
@@ -21,6 +22,32 @@ sys.path.insert(0, str(here.parent / "scripts"))
 HEAD = "From Ravenargent Require Import Main Converse Faults Answers Infinite Shown.\nOpen Scope N_scope.\n"
 CLOSED = "Closed under the global context"
 FAULTS = ("Text", "Law", "Word", "Order", "Period", "Apart", "Outcome")  # as coq/Faults.v names what a text has
+
+
+class Stated(Protocol):
+    """What has a theorem."""
+
+    @property
+    def name(self) -> str:
+        ...
+
+    @property
+    def head(self) -> str:
+        ...
+
+    @property
+    def text(self) -> bytes:
+        ...
+
+    @property
+    def theorem(self) -> str:
+        ...
+
+    def line(self, name: str, otherwise: str) -> str:
+        ...
+
+    def source(self) -> str:
+        ...
 
 
 @dataclasses.dataclass(frozen=True)
@@ -31,6 +58,8 @@ class Text:
     text: bytes
     right: bool = True
     fault: str = ""  # of a text that is refused, where it is said
+
+    head = HEAD
 
     @property
     def is_infinite(self) -> bool:
@@ -119,17 +148,16 @@ def in_catalogue(file: pathlib.Path) -> list[Text]:
     return [certificate(entry["certificate"].encode()) for entry in entries]
 
 
-def source_of(texts: Iterable[Text]) -> str:
+def source_of(texts: Sequence[Stated]) -> str:
     """A file with the theorems of these texts, at whose end Coq says which axioms they stand on."""
-    texts = list(texts)
     all_of_them = ",\n  ".join(it.theorem for it in texts)
     told = f"\nDefinition all_of_them := ({all_of_them}).\nPrint Assumptions all_of_them.\n"
-    return HEAD + "".join(it.source() for it in texts) + told
+    return texts[0].head + "".join(it.source() for it in texts) + told
 
 
-def batches(texts: Iterable[Text], size: int) -> Iterator[list[Text]]:
+def batches(texts: Iterable[Stated], size: int) -> Iterator[list[Stated]]:
     """Texts in turn, about so many bytes together."""
-    batch: list[Text] = []
+    batch: list[Stated] = []
     for it in texts:
         if batch and sum(len(other.text) for other in batch) + len(it.text) > size:
             yield batch
@@ -167,7 +195,7 @@ def compile_file(file: pathlib.Path) -> Said:
     return Said(run.returncode, run.stdout, [float(time) for time in times])
 
 
-def prove(name: str, texts: list[Text], folder: pathlib.Path) -> Said:
+def prove(name: str, texts: Sequence[Stated], folder: pathlib.Path) -> Said:
     """Writes a file of this name with the theorems of some texts, and has Coq prove it."""
     folder.mkdir(parents=True, exist_ok=True)
     file = folder / f"{name}.v"
