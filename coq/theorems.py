@@ -19,7 +19,7 @@ from typing import Protocol
 here = pathlib.Path(__file__).resolve().parent
 sys.path.insert(0, str(here.parent / "scripts"))
 
-HEAD = "From Ravenargent Require Import Main Converse Faults Answers Infinite Shown.\nOpen Scope N_scope.\n"
+LONGEST_NAME = 40
 CLOSED = "Closed under the global context"
 FAULTS = ("Text", "Law", "Word", "Order", "Period", "Apart", "Outcome")  # as coq/Faults.v names what a text has
 
@@ -59,7 +59,14 @@ class Text:
     right: bool = True
     fault: str = ""  # of a text that is refused, where it is said
 
-    head = HEAD
+    @property
+    def needs(self) -> tuple[str, ...]:
+        """The files of the theory with what the theorem says, and with what proves it."""
+        if self.is_infinite:
+            return ("Infinite", "Shown")
+        if self.fault:
+            return ("Faults", "Answers")
+        return ("Main",) if self.right else ("Converse",)
 
     @property
     def is_infinite(self) -> bool:
@@ -84,10 +91,8 @@ class Text:
     def last_heap(self) -> int:
         """0 for a full certificate."""
         if self.is_infinite:
-            heaps = self.line("heaps", "0")
-            return int(heaps) if heaps.isdecimal() else 0
-        start, period = self.line("start", "0"), self.line("period", "1")
-        return int(start) - 1 if period == "0" and start.isdecimal() else 0
+            return number(self.line("heaps", "0"))
+        return max(number(self.line("start", "1")) - 1, 0) if self.line("period", "1") == "0" else 0
 
     def source(self) -> str:
         """The text as Coq has it, and the theorem."""
@@ -113,6 +118,11 @@ class Text:
         return text + said + "Proof. apply check_sound. vm_cast_no_check (eq_refl true). Time Qed.\n"
 
 
+def number(word: str) -> int:
+    """A number of few digits, or 0."""
+    return int(word) if re.fullmatch(r"[0-9]{1,9}", word) else 0
+
+
 def literal(text: bytes) -> str:
     """A literal of Coq; byte by byte where some byte is neither LF nor printable ASCII."""
     if all(byte == 10 or 32 <= byte < 127 for byte in text):
@@ -120,8 +130,9 @@ def literal(text: bytes) -> str:
     return "text_of_bytes [" + "; ".join(f"x{byte:02x}" for byte in text) + "]"
 
 
-def name_of(code: str, last_heap: int, tail: str = "") -> str:
-    return re.sub(r"\W", "_", code) + (f"_heaps_{last_heap}" if last_heap else "") + tail
+def name_of(code: str, last_heap: int) -> str:
+    """A name for Coq and for a file; of a code that is too long, which no text may have, its first digits."""
+    return re.sub(r"\W", "_", code, flags=re.A)[:LONGEST_NAME] + (f"_heaps_{last_heap}" if last_heap else "")
 
 
 def certificate(text: bytes) -> Text:
@@ -148,11 +159,17 @@ def in_catalogue(file: pathlib.Path) -> list[Text]:
     return [certificate(entry["certificate"].encode()) for entry in entries]
 
 
+def head_of(texts: Sequence[Stated]) -> str:
+    """What a file begins with that has the theorems of these texts."""
+    needs = sorted({name for it in texts for name in it.needs})
+    return f"From Ravenargent Require Import Text {' '.join(needs)}.\nOpen Scope N_scope.\n"
+
+
 def source_of(texts: Sequence[Stated]) -> str:
     """A file with the theorems of these texts, at whose end Coq says which axioms they stand on."""
     all_of_them = ",\n  ".join(it.theorem for it in texts)
     told = f"\nDefinition all_of_them := ({all_of_them}).\nPrint Assumptions all_of_them.\n"
-    return texts[0].head + "".join(it.source() for it in texts) + told
+    return head_of(texts) + "".join(it.source() for it in texts) + told
 
 
 def batches(texts: Iterable[Stated], size: int) -> Iterator[list[Stated]]:
@@ -178,6 +195,11 @@ class Said:
     @property
     def is_closed(self) -> bool:
         return self.status == 0 and CLOSED in self.lines
+
+    @property
+    def ran_out(self) -> bool:
+        """Whether Coq had no end for want of stack or memory, or was ended by a signal."""
+        return self.status not in (0, 1) or re.search(r"Stack overflow|Out of memory", self.lines) is not None
 
 
 def grow_stack() -> None:

@@ -13,8 +13,6 @@ import dataclasses
 import pathlib
 import re
 
-from theorems import HEAD
-
 NAMES = ("code", "start", "period", "rise", "calm", "ruled", "ray", "heaps")
 
 
@@ -35,7 +33,7 @@ class Game:
     held: str
     right: bool = True
 
-    head = HEAD + "From Ravenargent Require Import RuledGames.\nOpen Scope N_scope.\n"
+    needs = ("RuledGames",)
 
     @property
     def text(self) -> bytes:
