@@ -12,6 +12,8 @@ import {layered} from "./layers.js";
 
 /** The most words in a line of a box; how wide a letter is, and how high a line; the space around the words. */
 const [ACROSS, LETTER, LINE, MARGIN] = [4, 8.5, 19, 10];
+/** How far below a word its line is drawn: below each letter, and in the middle of a pixel. */
+const UNDER = 4.5;
 
 /** @param {Game} game */
 export function componentPicture({certificate, words}) {
@@ -30,6 +32,7 @@ export function componentPicture({certificate, words}) {
   });
   svg.append(...lines.map((way) => draw("path", {class: "edge", d: pathOf(way)})));
   components.forEach((it, at) => svg.append(...boxOf(it, placed[at], measures[at], certificate.portion, words)));
+  underline(svg);
   const caption = [
     `The ${components.length} `, explained("Components", "archimedean components"),
     ", the greater idempotents above. Underlined: the group of the component. Blue: in 𝒫."
@@ -71,12 +74,44 @@ function boxOf({members, group}, {x, y, width, height}, {columns, column}, porti
 }
 
 /**
+ * Draws a line under each word of a group. (Browsers interrupt an underline of text where a letter reaches below it:
+ * under a lone g nothing would be left of it.)
+ * @param {SVGElement} svg
+ */
+function underline(svg) {
+  const group = /** @type {SVGTextElement[]} */ ([...svg.querySelectorAll("text.group")]);
+  const widths = whileShown(svg, () => group.map((it) => it.getComputedTextLength()));
+  group.forEach((word, at) => {
+    const x = Number(word.getAttribute("x")), y = Number(word.getAttribute("y")) + UNDER;
+    word.before(draw(
+        "line", {class: word.classList.contains("p") ? "under p" : "under", x1: x, y1: y, x2: x + widths[at], y2: y}));
+  });
+}
+
+/**
+ * What a call tells while the drawing stands on the page, unseen: elsewhere its texts have no width.
+ * @template T
+ * @param {SVGElement} svg
+ * @param {() => T} call
+ */
+function whileShown(svg, call) {
+  svg.classList.add("measured");
+  document.body.append(svg);
+  try {
+    return call();
+  } finally {
+    svg.remove();
+    svg.classList.remove("measured");
+  }
+}
+
+/**
  * A word with its powers raised.
  * @param {string} text
  */
 function spans(text) {
   return [...text.matchAll(/([a-z]|\d+)(?:\^(\d+))?/g)].flatMap(([, base, power]) => {
-    const letter = draw("tspan", {class: /\d/.test(base) ? "base" : "base letter"}, base);
+    const letter = draw("tspan", {class: /\d/.test(base) ? "" : "letter"}, base);
     const raised = power ? [draw("tspan", {dy: -4, class: "power"}, power), draw("tspan", {dy: 4}, "\u200b")] : [];
     return [letter, ...raised];
   });
