@@ -7,7 +7,8 @@ ROOT is the project, with its program built, if no other is named: `misere descr
 certificate stands here as its heaps, its portion and what multiplication.py leaves of its products, out of which the
 page makes all of its lines again (certificate_text.js). Nothing is believed of that: the page has each text checked.
 
-Beside the entries of the catalogues there are further parts of games without a full one: those of atlas/parts.json.
+Beside the entries of the catalogues there are further parts of games without a full one: those of atlas/parts.json. A
+code stands with each of its quotients.
 """
 import json
 import pathlib
@@ -49,17 +50,26 @@ def quotient(group, number, place):
     return {**certified(group[0]), "kind": group[0].kind, "class": number, "codes": codes}
 
 
+def further_of(page):
+    """The entries of the further parts by quotient, described."""
+    from atlas_page import PARTS, describe, entries_of, groups_of
+
+    groups = groups_of(entries_of(page.root, PARTS))
+    describe(page.program, [group[0] for group in groups])
+    return groups
+
+
 def main():
     root, to, *named = map(pathlib.Path, sys.argv[1:])
     sys.path.insert(0, str(root / "scripts"))
-    from atlas_page import PARTS, Page, entries_of
+    from atlas_page import Page
 
     page = Page(root, *(named or [root / "crates/misere/out/misere"]))
     place = {entry.code: at for at, entry in enumerate(page.entries)}
-    classes = classes_of([(rows_of(group[0]), numbers(group[0].words["portion"])) for group in page.groups])
-    quotients = [quotient(group, number, place) for group, number in zip(page.groups, classes)]
-    parts = [{"code": entry.code, **certified(entry)} for entry in entries_of(root, PARTS)]
-    held = {"quotients": quotients, "parts": parts, "infinite": names_of(root)}
+    groups = [*page.groups, *further_of(page)]
+    classes = classes_of([(rows_of(group[0]), numbers(group[0].words["portion"])) for group in groups])
+    quotients = [quotient(group, number, place) for group, number in zip(groups, classes)]
+    held = {"quotients": quotients, "infinite": names_of(root)}
     to.write_text(json.dumps(held, separators=(",", ":")))
     told = f"{len(place)} games, {len(quotients)} quotients, {len(set(classes))} bipartite monoids up to isomorphism"
     print(f"atlas.py: {told}", file=sys.stderr)

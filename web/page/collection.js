@@ -32,7 +32,7 @@ export class Collection {
    * @returns {Promise<string | null>}
    */
   async find(name) {
-    return this.#own.get(name) ?? stored(name) ?? this.#ofAtlas(name) ?? this.#infiniteOne(name);
+    return this.#own.get(name) ?? stored(name) ?? this.atlas.text(name) ?? this.#infiniteOne(name);
   }
 
   /**
@@ -43,16 +43,10 @@ export class Collection {
     const name = isInfinite(text) ? infiniteName(infiniteOf(text)) : nameOf(fieldsOf(text));
     const [code] = name.split("/");
     for (const known of [code, name])
-      if (this.#ofAtlas(known) === text) return known;
+      if (this.atlas.text(known) === text) return known;
     this.#own.set(name, text);
     store(name, text);
     return name;
-  }
-
-  /** @param {string} name */
-  #ofAtlas(name) {
-    const [code, last] = name.split("/");
-    return this.atlas.text(code, last ? Number(last) : null);
   }
 
   /** @param {string} name */

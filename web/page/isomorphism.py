@@ -4,16 +4,23 @@
 
 It is a search that colours cut short. Nothing of it is proved.
 """
+from operator import mul
+
+# Colours have so many bits, so that sums of their products stay short.
+BITS = (1 << 30) - 1
 
 
 def colours_of(rows, portion):
-    """A colour for each element, which isomorphisms keep: refined by its products until no colour splits."""
+    """A colour for each element, which isomorphisms keep: refined by its products until no colour splits. (Which other
+    elements lead to which products is a sum, since their order is no matter. Two sums may be the same by chance: then a
+    colour doesn't split, and the search takes longer.)"""
     elements = range(len(rows))
-    colours = [hash((x in portion, rows[x][x] == x, x == 0)) for x in elements]
+    colours = [hash((x in portion, rows[x][x] == x, x == 0)) & BITS for x in elements]
     kinds = len(set(colours))
     while True:
-        products = [tuple(sorted((colours[y], colours[rows[x][y]]) for y in elements)) for x in elements]
-        colours = [hash((colours[x], products[x])) for x in elements]
+        mixed = [hash((colour,)) & BITS for colour in colours]
+        products = [sum(map(mul, colours, map(mixed.__getitem__, row))) for row in rows]
+        colours = [hash((colours[x], products[x])) & BITS for x in elements]
         if len(set(colours)) == kinds:
             return colours
         kinds = len(set(colours))

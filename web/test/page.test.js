@@ -34,9 +34,21 @@ const made = new Atlas(heldIn("atlas.json"));
 const heldInfinite = heldIn("infinite.json");
 
 test("the texts that the page makes again are those of the catalogues", () => {
-  assert.equal(made.entries.length, atlas.length);
-  for (const {code, bytes} of atlas) assert.equal(made.text(code), new TextDecoder().decode(bytes), code);
-  for (const {code, bytes, last} of parts) assert.equal(made.text(code, last), new TextDecoder().decode(bytes), code);
+  const all = [...atlas, ...parts];
+  assert.equal(made.entries.length, all.length);
+  for (const {code, bytes, last} of all)
+    assert.equal(made.text(last ? `${code}/${last}` : code), new TextDecoder().decode(bytes), code);
+});
+
+test("the certificate of a code is the full one, or else that of the most heaps", () => {
+  const all = [...atlas, ...parts], codes = [...new Set(all.map(({code}) => code))];
+  assert.deepEqual([...made.games.keys()].sort(), [...codes].sort());
+  for (const code of codes) {
+    const lasts = all.filter((it) => it.code === code).map(({last}) => last);
+    assert.equal(made.entry(code)?.last, lasts.includes(null) ? null : Math.max(...lasts.map(Number)), code);
+  }
+  assert.deepEqual(["0.77", "0.07", "0.07/24"].map((it) => made.entry(it)?.order), [40, 638, 24]);
+  for (const none of ["0.07/25", "0.77/5", "0.07/34-33", "0.123456", ""]) assert.equal(made.entry(none), null, none);
 });
 
 /**
@@ -124,8 +136,12 @@ test("as many games are listed as docs/ATLAS.md counts", () => {
   const counts = (page.match(/^\| all \| (.*) \|$/m)?.[1] ?? "").split(" | ");
   const words =
       ["", "speaks=full", "speaks=full&kind=tame", "speaks=full&kind=wild", "speaks=partial", "each=quotient"];
-  assert.deepEqual(words.map((it) => listed(it).length), counts.map((it) => Number(it.replaceAll(",", ""))));
-  assert.equal(made.entries.length, atlas.length);
+  // (the page counts the further parts too, each of a game that is counted there)
+  const further = new Set(parts.map(({bytes}) => new TextDecoder().decode(bytes).split("\n").slice(2).join()));
+  const wanted = counts.map((it) => Number(it.replaceAll(",", "")));
+  wanted[words.indexOf("each=quotient")] += further.size;
+  assert.deepEqual(words.map((it) => listed(it).length), wanted);
+  assert.equal(listed("each=certificate").length, atlas.length + parts.length);
 });
 
 /** @type {[string, string, (entry: import("../page/atlas.js").Entry) => boolean][]} */
@@ -133,6 +149,8 @@ const CHOICES = [
   ["a beginning", "code=0.77", ({code}) => code.startsWith("0.77")],
   ["digits anywhere", "code=77", ({code}) => code.includes("77")],
   ["digits that are letters", "code=ff", ({code}) => code.includes("ff")],
+  ["an order of a further part", "order=638", ({order}) => order === 638],
+  ["an order of a smaller part", "order=24&code=0.07", ({code, order}) => order === 24 && code.startsWith("0.07")],
   ["a name", "code=kayles", ({code}) => ["0.77", "0.07"].includes(code)],
   ["a name with its sign", "code=Dawson's c", ({code}) => code === "0.137"],
   ["a period", "period=3", ({last, quotient}) => last === null && quotient.period === 3],
@@ -146,9 +164,11 @@ const CHOICES = [
 test("games are chosen by what the fields say", async (t) => {
   for (const [name, word, holds] of CHOICES) {
     await t.test(name, () => {
-      const codes = listed(word).map(([{code}]) => code);
-      assert.deepEqual(codes, made.entries.filter(holds).map(({code}) => code));
-      assert.ok(codes.length > 0 && codes.length < made.entries.length);
+      const names = listed(`${word}&each=certificate`).map(([{name}]) => name), all = made.entries.filter(holds);
+      assert.deepEqual(names, all.map(({name}) => name));
+      assert.ok(names.length > 0 && names.length < made.entries.length);
+      const games = listed(word).map(([{code}]) => code);
+      assert.deepEqual(games, [...new Set(all.map(({code}) => code))]);
       assert.deepEqual(chosenOf(wordOf(chosenOf(word)).slice(1)), chosenOf(word));
     });
   }
@@ -159,7 +179,7 @@ const fieldsOfLine = (/** @type {string} */ line) => line.split(",");
 
 test("what is listed is saved, as CSV and as JSON", () => {
   const names = ["code", "name", "order", "portion", "start", "period", "last_heap", "tame", "infinite_to", "same"];
-  for (const word of ["", "code=0.0", "each=quotient&kind=wild", "each=monoid", "code=none"]) {
+  for (const word of ["", "code=0.0", "each=certificate", "each=quotient&kind=wild", "each=monoid", "code=none"]) {
     const rows = listed(word), data = listedOf(rows);
     assert.deepEqual(JSON.parse(jsonOf(data)), data);
     assert.deepEqual(data.map(({code, same}) => [code, ...same]), rows.map((row) => row.map(({code}) => code)));
@@ -187,7 +207,7 @@ test("a row is told by its numbers", () => {
   });
   const {start, period, last_heap, infinite_to} = listedOf(listed("code=0.07"))[0];
   assert.deepEqual(
-      {start, period, last_heap, infinite_to}, {start: null, period: null, last_heap: 24, infinite_to: 34});
+      {start, period, last_heap, infinite_to}, {start: null, period: null, last_heap: 33, infinite_to: 34});
 });
 
 test("a name is that of a code", () => {
@@ -223,11 +243,10 @@ test("a part of a code is found by its last heap", async () => {
   const page = new Collection(made, async () => heldInfinite);
   const [furthest, first] = [await page.find("0.07/33"), await page.find("0.07/24")];
   assert.equal(furthest, sample("0.07_heaps_33").toString());
-  assert.equal(first, await page.find("0.07"));
-  assert.equal(page.keep(furthest ?? ""), "0.07/33");
-  assert.equal(page.keep(first ?? ""), "0.07");
-  assert.deepEqual(made.partsOf("0.07").map(({name}) => name), ["0.07/24", "0.07/33"]);
-  assert.deepEqual(made.partsOf("0.77"), []);
+  assert.equal(furthest, await page.find("0.07"));
+  assert.equal(page.keep(furthest ?? ""), "0.07");
+  assert.equal(page.keep(first ?? ""), "0.07/24");
+  assert.deepEqual(made.games.get("0.07")?.map(({name}) => name), ["0.07/33", "0.07/24"]);
   for (const name of ["0.07/25", "0.77/5", "0.123456"]) assert.equal(await page.find(name), null);
 });
 

@@ -48,6 +48,7 @@ export const sample = (/** @type {string} */ name) =>
 /**
  * All entries of a catalogue of the atlas.
  * @param {string} name
+ * @returns {{code: string, bytes: Uint8Array, last: number | null}[]}
  */
 function entriesOf(name) {
   const {entries} = JSON.parse(readFileSync(path.join(root, `atlas/${name}.json`), "utf8"));

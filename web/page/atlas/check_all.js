@@ -41,13 +41,13 @@ async function checkAll({atlas, prover, finder}, verdict, bar) {
   const refused = [];
   let accepted = 0;
   // (by both workers, side by side)
-  const check = async (/** @type {import("../atlas.js").Entry} */ {code}, /** @type {number} */ at) => {
+  const check = async (/** @type {import("../atlas.js").Entry} */ {name}, /** @type {number} */ at) => {
     try {
-      await (at % 2 ? finder : prover).ask("check", encoder.encode(atlas.text(code) ?? ""));
+      await (at % 2 ? finder : prover).ask("check", encoder.encode(atlas.text(name) ?? ""));
       accepted++;
     } catch (failure) {
       if (!isNo(failure)) throw failure;
-      refused.push(code);
+      refused.push(name);
     }
   };
   try {

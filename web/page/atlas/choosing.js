@@ -1,4 +1,4 @@
-// Which games of the atlas are shown, and in which order. The choice stands in the address.
+// Which certificates of the atlas are listed, and in which order. The choice stands in the address.
 
 import {MOST_HEAPS} from "../../calls.js";
 import {grouped} from "../atlas.js";
@@ -15,7 +15,7 @@ import {isNamed} from "../codes.js";
  * @property {string} portion the same
  * @property {string} period the same, of full quotients
  * @property {string} tame the same of n, where the quotient is T_n
- * @property {string} each `game`, `quotient` or `monoid`: what has a row of its own
+ * @property {string} each `game`, `certificate`, `quotient` or `monoid`: what has a row of its own
  * @property {string} by the column that sorts
  * @property {boolean} down
  */
@@ -46,7 +46,8 @@ const KEYS = {
 
 /** @type {Record<string, (entry: Entry) => unknown>} */
 const GROUPS = {
-  game: (entry) => entry,
+  game: ({code}) => code,
+  certificate: (entry) => entry,
   quotient: ({quotient}) => quotient,
   monoid: ({quotient}) => quotient.class
 };
@@ -78,14 +79,16 @@ export function wordOf(chosen) {
 }
 
 /**
- * The games that are chosen, in their order, by what has a row of its own: a list for each row.
+ * The certificates that are chosen, in the order of their games, by what has a row of its own: a list for each row. The
+ * row of a game has the furthest of those of its certificates that are chosen.
  * @param {import("../atlas.js").Atlas} atlas
  * @param {Chosen} chosen
  */
 export function rowsOf(atlas, chosen) {
   const {each, by, down} = chosen;
   const key = KEYS[by];
-  const rows = [...grouped(atlas.entries.filter((it) => isSought(it, chosen)), GROUPS[each]).values()];
+  const groups = [...grouped(atlas.entries.filter((it) => isSought(it, chosen)), GROUPS[each]).values()];
+  const rows = each === "game" ? groups.map(([furthest]) => [furthest]) : groups;
   const compared = (/** @type {Entry} */ a, /** @type {Entry} */ b) => Math.sign(key(a) - key(b));
   return rows.sort(([a], [b]) => (down ? -1 : 1) * compared(a, b) || a.place - b.place);
 }

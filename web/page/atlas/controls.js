@@ -33,6 +33,7 @@ export function controls(chosen, choose) {
       labelled("Period", written("period", {size: 7, placeholder: "1-19"})),
       labelled("Tame, Tₙ", written("tame", {size: 5, placeholder: "2 or 0-1"})),
       labelled(
-          "A row for each",
-          picked("each", [["game", "game"], ["quotient", "quotient"], ["monoid", "bipartite monoid"]])));
+          "A row for each", picked("each", [
+            ["game", "game"], ["certificate", "certificate"], ["quotient", "quotient"], ["monoid", "bipartite monoid"]
+          ])));
 }

@@ -18,7 +18,7 @@ import {make} from "../dom.js";
 
 /** @type {Column[]} */
 const COLUMNS = [
-  {name: "Code", by: "place", kind: "code", cell: ({code}) => [linkOf(code), nameOf(code)]},
+  {name: "Code", by: "place", kind: "code", cell: (entry, atlas) => [linkOf(entry, atlas), nameOf(entry.code)]},
   {name: "Order", by: "order", kind: "number", cell: ({order}) => String(order)},
   {name: "Portion", by: "portion", kind: "number", cell: ({portion}) => String(portion)},
 ];
@@ -34,20 +34,25 @@ const COUNTS = [
   {name: "Same monoid", kind: "wide", cell: ({quotient}, atlas) => othersOf(atlas.classes.get(quotient.class) ?? [])},
 ];
 /** @type {Column[]} */
-const CODES = [{name: "Other codes", kind: "codes", cell: (_, atlas, group) => group.slice(1).flatMap(spacedLink)}];
+const CODES = [{name: "Others", kind: "codes", cell: (_, atlas, group) => group.slice(1).flatMap(spacedLink)}];
 
 /**
  * (Where all codes are listed, a phone has no room for the details.)
  * @param {Chosen} chosen
  */
 function columnsOf({each}) {
-  if (each === "game") return [...COLUMNS, ...DETAILS, ...COUNTS];
+  if (each === "game" || each === "certificate") return [...COLUMNS, ...DETAILS, ...COUNTS];
   return [...COLUMNS, ...DETAILS.map((it) => ({...it, kind: "wide"})), ...CODES];
 }
 
-/** @param {string} code */
-function linkOf(code) {
-  return make("a", {href: gameAddress(code)}, code);
+/**
+ * (The game's own page has the furthest of its certificates.)
+ * @param {Entry} entry
+ * @param {Atlas} atlas
+ */
+function linkOf(entry, atlas) {
+  const {code, name} = entry;
+  return make("a", {href: gameAddress(atlas.entry(code) === entry ? code : name)}, code);
 }
 
 /** @param {string} code */
@@ -57,8 +62,8 @@ function nameOf(code) {
 }
 
 /** @param {Entry} entry */
-function spacedLink({code}) {
-  return [linkOf(code), " "];
+function spacedLink({name}) {
+  return [make("a", {href: gameAddress(name)}, name), " "];
 }
 
 /** @param {Entry} entry */

@@ -13,7 +13,7 @@ import {alertOf, isNo, toldOfCertificate} from "../refusals.js";
 import {askSection} from "./ask.js";
 import {certificateSection} from "./certificate_section.js";
 import {heapSection} from "./heaps.js";
-import {partsSection} from "./parts.js";
+import {linksOf} from "./links.js";
 import {pictureSection} from "./picture_section.js";
 import {quotientSection, ruleSection} from "./quotient.js";
 import {relativesSection} from "./relatives.js";
@@ -38,9 +38,10 @@ const NOT_DESCRIBED = 16;
  * @param {Page} page
  * @param {HTMLElement} root
  * @param {Uint8Array} bytes
+ * @param {boolean} isGame whether it is shown as a game's, so that what else is known of that stands above
  */
-export async function present(page, root, bytes) {
-  if (isInfinite(bytes)) return presentInfinite(page, root, bytes);
+export async function present(page, root, bytes, isGame = false) {
+  if (isInfinite(bytes)) return presentInfinite(page, root, bytes, isGame);
   const verdict = make("p", {class: "verdict", id: "verdict", role: "status"}, "Checking …");
   fill(root, verdict);
   try {
@@ -50,7 +51,7 @@ export async function present(page, root, bytes) {
     verdict.classList.add("yes");
     const taken = time < 1 ? "less than 1 ms" : `${time.toFixed(0)} ms`;
     fill(verdict, verdictOf(certificate), make("span", {class: "soft"}, ` (checked here in ${taken})`));
-    await presentGame(page, root, bytes, certificate, verdict);
+    await presentGame(page, root, bytes, certificate, verdict, isGame);
   } catch (failure) {
     verdict.classList.add(isNo(failure) ? "no" : "none");
     fill(verdict, toldOfCertificate(failure, () => fieldsOf(new TextDecoder().decode(bytes)).code));
@@ -64,13 +65,14 @@ export async function present(page, root, bytes) {
  * @param {Uint8Array} bytes
  * @param {import("../certificate.js").Certificate} certificate
  * @param {Element} verdict
+ * @param {boolean} isGame
  */
-async function presentGame(page, root, bytes, certificate, verdict) {
+async function presentGame(page, root, bytes, certificate, verdict, isGame) {
   const describing = make("p", {class: "soft", id: "describing", role: "status"}, "Describing …");
   root.append(describing);
   try {
     const game = await gameOf(page, bytes, certificate);
-    if (root.firstChild === verdict) root.append(...sectionsOf(page, game));
+    if (root.firstChild === verdict) root.append(...sectionsOf(page, game, isGame));
   } catch (failure) {
     if (root.firstChild === verdict) root.append(alertOf(failure));
   } finally {
@@ -107,8 +109,9 @@ async function descriptionOf(page, bytes) {
 /**
  * @param {Page} page
  * @param {Game} game
+ * @param {boolean} isGame
  */
-function sectionsOf(page, game) {
+function sectionsOf(page, game, isGame) {
   const last = lastHeap(game.certificate);
   const start = [3, 4, 5].filter((heap) => last === null || heap <= last);
   const partial = last === null ?
@@ -118,13 +121,12 @@ function sectionsOf(page, game) {
           `A partial quotient: all that is told here is of the positions whose heaps are at most ${last}.`);
   return [
     partial,
-    make("p", {class: "links"}, make("a", {href: playAddress(game.name, start)}, "Play against it")),
+    linksOf(page, playAddress(game.name, start), game.certificate.code, isGame),
     ruleSection(game.certificate.code),
     quotientSection(game),
     heapSection(game),
     askSection(page, game),
     pictureSection(page, game),
-    partsSection(page, game.certificate),
     relativesSection(page, game) ?? "",
     certificateSection(page, game),
   ];

@@ -1,4 +1,4 @@
-// Other codes of the atlas with the same quotient.
+// Other certificates of the atlas with the same quotient.
 
 import {gameAddress} from "../address.js";
 import {make} from "../dom.js";
@@ -8,7 +8,7 @@ import {make} from "../dom.js";
  * @param {import("./present.js").Game} game
  */
 export function relativesSection({atlas}, {name}) {
-  const entry = atlas.byCode.get(name);
+  const entry = atlas.entry(name);
   if (!entry) return null;
   const [same, isomorphic] = [atlas.sameQuotient(entry), atlas.isomorphic(entry)];
   return make(
@@ -23,11 +23,11 @@ export function relativesSection({atlas}, {name}) {
 
 /**
  * @param {string} what
- * @param {string[]} codes
+ * @param {import("../atlas.js").Entry[]} entries
  */
-function listed(what, codes) {
-  const links = codes.flatMap((code) => [make("a", {href: gameAddress(code)}, code), " "]);
+function listed(what, entries) {
+  const links = entries.flatMap(({name}) => [make("a", {href: gameAddress(name)}, name), " "]);
   return make(
-      "details", {open: codes.length > 0 && codes.length <= 24},
-      make("summary", {}, `${what}: ${codes.length || "none"}`), make("p", {class: "codes"}, links));
+      "details", {open: links.length > 0 && entries.length <= 24},
+      make("summary", {}, `${what}: ${entries.length || "none"}`), make("p", {class: "codes"}, links));
 }

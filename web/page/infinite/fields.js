@@ -1,16 +1,20 @@
 // What the lines of a certificate of an infinite quotient say. (The page's own reading.)
 
 /**
- * @typedef {object} Infinite
- * @property {string} text
+ * @typedef {object} Part of which heaps a certificate speaks
  * @property {string} code
  * @property {number} last its last heap
  * @property {number[]} leftOut the smaller heaps of which it doesn't speak
+ *
+ * @typedef {object} Fields
+ * @property {string} text
  * @property {number} order how many elements its monoid has
  * @property {number} tracks how many tracks it has
  * @property {number[]} base three positions: base, base + up, base + 2 up, .. are told apart, and downs undo ups
  * @property {number[]} up
  * @property {number[]} down
+ *
+ * @typedef {Part & Fields} Infinite
  */
 
 /**
@@ -44,8 +48,19 @@ export function infiniteOf(text) {
 }
 
 /**
+ * The part of a code that its name says, such as `34-33`.
+ * @param {string} code
+ * @param {string} name
+ * @returns {Part}
+ */
+export function partOf(code, name) {
+  const [last, ...leftOut] = name.split("-").map(Number);
+  return {code, last, leftOut};
+}
+
+/**
  * The name of such a certificate: its code, its last heap, and behind a dash each heap that is left out.
- * @param {Infinite} certificate
+ * @param {Part} part
  */
 export function infiniteName({code, last, leftOut}) {
   return `${code}/${[last, ...leftOut].join("-")}`;
@@ -53,15 +68,23 @@ export function infiniteName({code, last, leftOut}) {
 
 /**
  * The heaps of which it speaks, in words.
- * @param {Infinite} certificate
+ * @param {Part} part
  */
-export function heapsTold({last, leftOut}) {
-  return `the heaps 1 to ${last}${leftOut.length ? ` without ${leftOut.join(" and ")}` : ""}`;
+export function heapsTold(part) {
+  return `the heaps 1 to ${partWords(part)}`;
+}
+
+/**
+ * Its last heap, and those that are left out.
+ * @param {Part} part
+ */
+export function partWords({last, leftOut}) {
+  return `${last}${leftOut.length ? ` without ${leftOut.join(" and ")}` : ""}`;
 }
 
 /**
  * The line with which the program accepts it.
- * @param {Infinite} certificate
+ * @param {Part} part
  */
 export function infiniteVerdict({code, last, leftOut}) {
   return `infinite ${code} heaps ${last}${leftOut.length ? ` without ${leftOut.join(" ")}` : ""}`;
@@ -69,7 +92,7 @@ export function infiniteVerdict({code, last, leftOut}) {
 
 /**
  * Whether it speaks of all these heaps.
- * @param {Infinite} certificate
+ * @param {Part} part
  * @param {(number | bigint)[]} heaps
  */
 export function speaksOf({last, leftOut}, heaps) {

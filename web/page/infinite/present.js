@@ -1,9 +1,10 @@
 // A certificate of an infinite quotient is checked, and where the checker accepts it, all that is told of it is shown.
 
-import {gameAddress, playAddress} from "../address.js";
+import {playAddress} from "../address.js";
 import {fill, make} from "../dom.js";
 import {askForm, outcomeOf} from "../game/ask.js";
 import {certificateOf} from "../game/certificate_section.js";
+import {linksOf} from "../game/links.js";
 import {ruleSection} from "../game/quotient.js";
 import {Oracle} from "../oracle.js";
 import {MOST_HEAPS_PLAYED} from "../play/bounds.js";
@@ -12,6 +13,7 @@ import {explained} from "../terms.js";
 
 import {familyPicture, memberOf, writtenOf} from "./family.js";
 import {heapsTold, infiniteName, infiniteOf, infiniteVerdict} from "./fields.js";
+import {theoremOf} from "./theorem.js";
 
 /** @typedef {import("../main.js").Page} Page */
 /** @typedef {import("./fields.js").Infinite} Infinite */
@@ -25,8 +27,9 @@ const NOT_CHECKED =
  * @param {Page} page
  * @param {HTMLElement} root
  * @param {Uint8Array} bytes
+ * @param {boolean} isGame whether it is shown as a game's, so that what else is known of that stands above
  */
-export async function presentInfinite(page, root, bytes) {
+export async function presentInfinite(page, root, bytes, isGame = false) {
   const verdict = make("p", {class: "verdict", id: "verdict", role: "status"}, "Checking …");
   fill(root, verdict);
   try {
@@ -37,7 +40,7 @@ export async function presentInfinite(page, root, bytes) {
     const certificate = infiniteOf(new TextDecoder().decode(bytes));
     verdict.classList.add("yes");
     fill(verdict, infiniteVerdict(certificate), make("span", {class: "soft"}, ` (checked here in ${inWords(time)})`));
-    root.append(...sectionsOf(page, oracle, certificate));
+    root.append(...sectionsOf(page, oracle, certificate, isGame));
   } catch (failure) {
     verdict.classList.add(isNo(failure) ? "no" : "none");
     fill(verdict, toldOfCertificate(failure, () => infiniteOf(new TextDecoder().decode(bytes)).code));
@@ -65,25 +68,17 @@ function showUnchecked(root, verdict, bytes) {
       make("p", {class: "partial", id: "theorem"}, said), ruleSection(certificate.code), certificateOf(certificate));
 }
 
-/** @param {Infinite} certificate */
-export function theoremOf(certificate) {
-  const {code} = certificate;
-  return `the misère quotient of ${heapsTold(certificate)} of ${code} is infinite, so neither these heaps nor the ` +
-      `whole game of ${code} have a finite one.`;
-}
-
 /**
  * @param {Page} page
  * @param {Oracle} oracle
  * @param {Infinite} certificate
+ * @param {boolean} isGame
  */
-function sectionsOf(page, oracle, certificate) {
+function sectionsOf(page, oracle, certificate, isGame) {
   const name = page.collection.keep(certificate.text);
   return [
     make("p", {class: "partial", id: "theorem"}, explained("No finite quotient"), `: ${theoremOf(certificate)}`),
-    make(
-        "p", {class: "links"}, make("a", {href: playAddress(name, startOf(certificate))}, "Play against it"), " ",
-        make("a", {href: gameAddress(certificate.code)}, `What is finite of ${certificate.code}`)),
+    linksOf(page, playAddress(name, startOf(certificate)), certificate.code, isGame),
     ruleSection(certificate.code),
     factSection(certificate),
     familySection(oracle, name, certificate),

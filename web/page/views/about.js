@@ -43,7 +43,7 @@ const TRUSTED = [
 export async function aboutView({atlas, module}, root) {
   const list = (/** @type {string[]} */ items) => make("ul", {}, items.map((it) => make("li", {}, it)));
   const sum = make("code", {class: "sum"}, "…");
-  const checked = `The page holds the certificates of ${atlas.entries.length} small games, and of ` +
+  const checked = `The page holds the certificates of ${atlas.games.size} small games, and of ` +
       `${atlas.infinite.size} of them certificates that they have no finite quotient. What it says of a game is ` +
       "checked here by the proved checker, compiled for the browser. Nothing is asked of a server and nothing is sent.";
   const version = document.querySelector("meta[name=version]")?.getAttribute("content");

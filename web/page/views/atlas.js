@@ -27,7 +27,7 @@ export async function atlasView(page, root, word) {
   const show = async () => {
     const now = chosen;
     const groups = rowsOf(atlas, now);
-    fill(count, countOf(groups.length, now, atlas.entries.length));
+    fill(count, countOf(groups.length, now, atlas));
     fill(head, ...headOf(now, choose));
     fill(body, ...groups.slice(0, FIRST_ROWS).map((it) => rowOf(atlas, now, it)));
     await new Promise((done) => setTimeout(done));
@@ -56,8 +56,8 @@ export async function atlasView(page, root, word) {
 }
 
 /** @param {import("../atlas.js").Atlas} atlas */
-function introductionOf({entries, quotients, classes, infinite}) {
-  return `The misère quotients of ${entries.length} octal and hexadecimal games. ` +
+function introductionOf({games, entries, quotients, classes, infinite}) {
+  return `The misère quotients of ${games.size} octal and hexadecimal games, by ${entries.length} certificates. ` +
       "In misère play the player who makes the last move loses. " +
       `There are ${quotients.length} quotients, told apart by the elements of their heaps too, ` +
       `and ${classes.size} bipartite monoids up to isomorphism, as a script counted when this page was made. ` +
@@ -67,9 +67,10 @@ function introductionOf({entries, quotients, classes, infinite}) {
 /**
  * @param {number} count
  * @param {Chosen} chosen
- * @param {number} all
+ * @param {import("../atlas.js").Atlas} atlas
  */
-function countOf(count, {each}, all) {
-  if (each === "game") return `${count} of ${all} games`;
+function countOf(count, {each}, {games, entries}) {
+  if (each === "game") return `${count} of ${games.size} games`;
+  if (each === "certificate") return `${count} of ${entries.length} certificates of finite quotients`;
   return `${count} ${each === "quotient" ? "quotients" : "bipartite monoids up to isomorphism"}`;
 }

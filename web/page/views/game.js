@@ -2,6 +2,7 @@
 
 import {codeOfName, GAME_NAMES, isCode} from "../codes.js";
 import {fill, make} from "../dom.js";
+import {knownSection} from "../game/known.js";
 import {present} from "../game/present.js";
 
 /**
@@ -15,10 +16,13 @@ export async function gameView(page, root, named) {
   const known = GAME_NAMES.get(code);
   const heading = `The game ${code}${last ? `, to heap ${last.replace("-", " without ")}` : ""}`;
   const body = make("div");
-  fill(root, make("h1", {}, heading, known && make("span", {class: "soft"}, ` ${known}`)), body);
+  const shown = page.atlas.entry(name)?.name ?? name;
+  fill(
+      root, make("h1", {}, heading, known && make("span", {class: "soft"}, ` ${known}`)),
+      knownSection(page, code, shown), body);
   const text = await page.collection.find(name);
   if (!text) return fill(root, make("h1", {}, name || "Which game?"), unknown(code, last));
-  await present(page, body, new TextEncoder().encode(text));
+  await present(page, body, new TextEncoder().encode(text), true);
 }
 
 /**

@@ -108,7 +108,7 @@ async function usualHeaps(page, name) {
  * @param {string} heaps
  */
 function setupForm({atlas}, name, heaps) {
-  const codes = make("datalist", {id: "codes"}, atlas.entries.map(({code}) => make("option", {value: code})));
+  const codes = make("datalist", {id: "codes"}, [...atlas.games.keys()].map((code) => make("option", {value: code})));
   const sizes = make("input", {id: "start", name: "heaps", value: heaps.replaceAll(",", " "), autocomplete: "off"});
   const deal = () => (sizes.value = dealt(atlas, game.value.trim()));
   const game = make(
@@ -129,7 +129,7 @@ function setupForm({atlas}, name, heaps) {
  */
 function dealt(atlas, name) {
   const [code, part] = name.split("/");
-  const [last, ...leftOut] = part ? part.split("-").map(Number) : [atlas.byCode.get(code)?.last ?? LARGEST_DEALT];
+  const [last, ...leftOut] = part ? part.split("-").map(Number) : [atlas.entry(code)?.last ?? LARGEST_DEALT];
   const sizes = Array.from({length: Math.min(LARGEST_DEALT, last)}, (_, at) => at + 1);
   const all = sizes.filter((heap) => !leftOut.includes(heap));
   const chance = (/** @type {number} */ count) => Math.floor(Math.random() * count);

@@ -32,7 +32,7 @@ def drive(it, program, steps):
     steps.expect("a choice has an address", orders == sorted(orders, reverse=True), f"{len(orders)} wild and full ones")
     it.one("#all").click()
     said = it.said("#all-told", "accepted", "refused", "verdict")
-    steps.expect("all certificates are accepted", f"{counts.all} certificates accepted" in said, said)
+    steps.expect("all certificates are accepted", f"{counts.certificates} certificates accepted" in said, said)
     returns(it, counts, steps)
 
 
@@ -86,10 +86,23 @@ def searches(it, counts, steps):
         steps.expect(f"by their kind: {kind}", True, it.text(".count"))
     for field in ("speaks", "kind"):
         Select(it.one(f"#{field}")).select_by_value("")
-    for each, count in {"quotient": counts.quotients, "monoid": counts.monoids, "game": counts.all}.items():
+    rows = {"certificate": counts.certificates, "quotient": counts.quotients, "monoid": counts.monoids}
+    for each, count in {**rows, "game": counts.all}.items():
         Select(it.one("#each")).select_by_value(each)
         it.listed(count)
         steps.expect(f"a row for each {each}", True, it.text(".count"))
+    further(it, steps)
+
+
+def further(it, steps):
+    """Each certificate of a game is found, and leads to its own page."""
+    for order, last, address in (("638", 33, "#game=0.07"), ("24", 24, "#game=0.07/24")):
+        it.go(f"#atlas=code=0.07&order={order}")
+        it.wait(lambda: it.texts(CODES)[:1] and column(it, 4)[:1] == [f"heaps to {last}"])
+        link = it.one(f"{CODES} a").get_attribute("href")
+        steps.expect(f"0.07 is found by its order {order}", link.endswith(address), link)
+    it.go("#atlas")
+    it.wait(lambda: not it.run("return document.querySelector('#order').value"))
 
 
 def saves(it, counts, steps):

@@ -98,18 +98,35 @@ def keeps(it, program, steps):
 
 
 def parts(it, program, steps):
-    it.go("#game=0.07/33")
-    said = it.said("#verdict", "yes 0.07")
-    steps.expect("a further part of a code", said.startswith("yes 0.07 order 638 heaps 33"), said)
-    links = [link.get_attribute("href").split("#")[1] for link in it.wait(lambda: it.all("#parts a"))]
-    wanted = {"game=0.07/24", "game=0.07/34", "game=0.07/34-33"}
-    steps.expect("leads to the others", wanted <= set(links), links)
     it.go("#game=0.07")
+    known(it, program, steps)
+    it.go("#game=0.07/24")
+    it.wait(lambda: it.text("h1").startswith("The game 0.07, to heap 24"))
     said = it.said("#verdict", "yes 0.07")
     it.one("#presentation")
     named = [it.text(f"#{name} math") for name in ("presentation", "portion")]
     steps.expect("a partial quotient has its last heap as an index", named == ["𝒬24(0.07)", "𝒫24"], named)
-    steps.expect("and is told as one", said.startswith("yes 0.07 order 24 heaps 24") and it.text(".partial"))
+    steps.expect("and is told as one", said.startswith("yes 0.07 order 24 heaps 24") and len(it.all(".partial")) == 2)
     it.picture("partial")
     told = answered(it, "25")
     steps.expect("a heap of which it doesn't speak", told.startswith("no 23 Beyond"), told)
+
+
+def known(it, program, steps):
+    """What is known of a game without a finite quotient stands first, the strongest above."""
+    said = it.said("#verdict", "yes 0.07")
+    steps.expect("the certificate of a code is its furthest part", said.startswith("yes 0.07 order 638 heaps 33"), said)
+    theorem = it.said("#theorem", "checked here in", "not checked", "refuses")
+    holds = "the heaps 1 to 34 without 33 of 0.07 is infinite" in theorem and "checked here in" in theorem
+    steps.expect("that it has no finite quotient is told, and checked", holds or "not checked" in theorem, theorem)
+    tops = it.run("return ['#theorem', '#known table', '#verdict'].map((it) => document.querySelector(it).offsetTop)")
+    steps.expect("before all else", tops == sorted(tops), tops)
+    rows = [[link.text for link in row.find_elements("css selector", "a")] for row in it.all("#known tr")]
+    finite = ["heaps to 33, of order 638", "heaps to 24, of order 24"]
+    steps.expect(
+        "the furthest parts are named first", rows[0][0] == "heaps to 34 without 33" and rows[1] == finite, rows
+    )
+    links = [link.get_attribute("href").split("#")[1] for link in it.all("#known a")]
+    wanted = {"game=0.07/33", "game=0.07/24", "game=0.07/34", "game=0.07/34-33"}
+    steps.expect("each has its page", wanted <= set(links), links)
+    it.picture("known")

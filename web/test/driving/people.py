@@ -14,7 +14,7 @@ UNNAMED = """return [...document.querySelectorAll('button, input, select, textar
     .map((it) => it.outerHTML.slice(0, 80))"""
 TRANSITIONS = """return [...document.querySelectorAll('.token')].filter((it) =>
     getComputedStyle(it).transitionDuration !== '0s').length"""
-SHEETS = ("0.77", "0.07", "0.15", "0.75")
+SHEETS = ("0.77", "0.07/24", "0.15", "0.75")
 # Views with few links
 TABBED = ("atlas=order=20-36", "game=0.33", "play=0.77:3,4", "check", "find=0.33", "about")
 STOPS = """[...document.querySelectorAll('a[href], button, input, select, textarea, summary, [tabindex]')]
@@ -31,7 +31,7 @@ def shown(it, view):
     it.open(f"#{view}")
     it.wait(lambda: it.text("h1"))
     if view.startswith(("game", "find")):
-        it.wait(lambda: it.all("#theorem") if "/" in view else len(it.all(".grid")) == 2)
+        it.wait(lambda: it.all("svg.family") or len(it.all(".grid")) == 2)
     if view.startswith("play"):
         it.wait(lambda: it.all(".token"))
 
@@ -66,7 +66,7 @@ def prints(it, steps):
         shown(it, f"game={code}")
         told = it.command("Page.printToPDF", printBackground=False, paperWidth=8.27, paperHeight=11.69)
         with tempfile.TemporaryDirectory() as folder:
-            file = (it.pictures or pathlib.Path(folder)) / f"print-{code}.pdf"
+            file = (it.pictures or pathlib.Path(folder)) / f"print-{code.replace('/', '-')}.pdf"
             file.write_bytes(base64.b64decode(told["data"]))
             pages = file.read_bytes().count(b"/Type /Page\n")
         steps.expect(f"{code} prints on one or two sheets", 1 <= pages <= 2, pages)

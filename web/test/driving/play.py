@@ -108,6 +108,6 @@ def others(it, program, steps):
     it.one("#other").click()
     it.wait(lambda: it.texts(LOG))
     steps.expect("a heap is split in three", it.texts(LOG)[0] == "You: 9 → 2 + 3 + 4", to_its_end(it))
-    it.go("#play=0.07:25")
+    it.go("#play=0.07:34")
     said = it.said("#board", "speaks of heaps")
-    steps.expect("a heap of which a partial one doesn't speak", "up to 24" in said, said)
+    steps.expect("a heap of which a partial one doesn't speak", "up to 33" in said, said)

@@ -17,15 +17,19 @@ class Steps:
 
 
 class Counts:
-    """How many games and quotients the catalogues of the atlas have, as the program describes them."""
+    """How many games, certificates and quotients the atlas has, as the program describes them."""
 
     def __init__(self, program):
-        page = program.module("atlas_page").Page(program.root, program.file)
+        module = program.module("atlas_page")
+        page = module.Page(program.root, program.file)
+        parts = module.entries_of(program.root, module.PARTS)
+        groups = [*page.groups, *module.groups_of(parts)]
         certificate_of = program.module("certificate_lines").certificate_of
-        firsts = [certificate_of(group[0].certificate) for group in page.groups]
+        firsts = [certificate_of(group[0].certificate) for group in groups]
         monoids = [([list(row) for row in it.rows], list(it.portion)) for it in firsts]
         full = [it for it in page.entries if not it.heaps]
-        self.all, self.quotients = len(page.entries), len(page.groups)
+        self.all, self.quotients = len(page.entries), len(groups)
+        self.certificates = len(page.entries) + len(parts)
         self.monoids = len(set(program.module("isomorphism").classes_of(monoids)))
         self.kinds = {name: sum(it.kind.startswith(name) for it in full) for name in ("tame", "wild")}
         self.short = sum(it.kind.startswith("tame") and int(it.words["period"]) < 20 for it in full)
