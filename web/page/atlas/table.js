@@ -18,7 +18,7 @@ import {make} from "../dom.js";
 
 /** @type {Column[]} */
 const COLUMNS = [
-  {name: "Code", by: "place", kind: "code", cell: (entry, atlas) => [linkOf(entry, atlas), nameOf(entry.code)]},
+  {name: "Code", by: "place", kind: "code", cell: codeCell},
   {name: "Order", by: "order", kind: "number", cell: ({order}) => String(order)},
   {name: "Portion", by: "portion", kind: "number", cell: ({portion}) => String(portion)},
 ];
@@ -29,7 +29,7 @@ const DETAILS = [
 ];
 /** @type {Column[]} */
 const COUNTS = [
-  {name: "Infinite", kind: "wide", cell: infiniteOf},
+  {name: "Infinite", kind: "wide", cell: (entry, atlas) => endlessOf(entry, atlas, `to heap ${entry.infinite}`)},
   {name: "Same quotient", kind: "wide", cell: ({quotient}) => othersOf(quotient.codes)},
   {name: "Same monoid", kind: "wide", cell: ({quotient}, atlas) => othersOf(atlas.classes.get(quotient.class) ?? [])},
 ];
@@ -55,10 +55,18 @@ function linkOf(entry, atlas) {
   return make("a", {href: gameAddress(atlas.entry(code) === entry ? code : name)}, code);
 }
 
-/** @param {string} code */
-function nameOf(code) {
-  const name = GAME_NAMES.get(code);
-  return name && make("span", {class: "soft known"}, ` ${name}`);
+/**
+ * A code, the name of its game, and where the list is narrow whether it has no finite quotient.
+ * @param {Entry} entry
+ * @param {Atlas} atlas
+ */
+function codeCell(entry, atlas) {
+  const name = GAME_NAMES.get(entry.code);
+  const sign = endlessOf(entry, atlas, "∞");
+  return [
+    linkOf(entry, atlas), sign && make("span", {class: "narrow"}, " ", sign),
+    name && make("span", {class: "soft known"}, ` ${name}`)
+  ];
 }
 
 /** @param {Entry} entry */
@@ -72,12 +80,15 @@ function periodOf({last, quotient: {period, start}}) {
 }
 
 /**
+ * A link to the certificate of the least last heap that says that a game has no finite quotient.
  * @param {Entry} entry
  * @param {Atlas} atlas
+ * @param {string} words
  */
-function infiniteOf({code, infinite}, atlas) {
+function endlessOf({code, infinite}, atlas, words) {
   const [first] = atlas.infinite.get(code) ?? [];
-  return first && make("a", {href: gameAddress(`${code}/${first}`)}, `to heap ${infinite}`);
+  const title = `no finite quotient: infinite to heap ${infinite}`;
+  return first && make("a", {href: gameAddress(`${code}/${first}`), title, "aria-label": title}, words);
 }
 
 /** @param {unknown[]} all */

@@ -1,24 +1,25 @@
-// Whether a certificate of an infinite quotient is accepted here, told amid a sentence.
+// Whether a certificate of an infinite quotient is accepted here, in a sentence.
 
 import {make} from "../dom.js";
 import {Oracle} from "../oracle.js";
 import {isNo, told} from "../refusals.js";
 
 /**
- * Words that change once the checker has answered. (The worker that searches is asked, so that nothing waits for it.)
+ * A sentence that changes once the checker has answered. (The worker that searches is asked, so that nothing waits for
+ * it.)
  * @param {import("../main.js").Page} page
  * @param {string} name
  */
 export function judged({collection, finder}, name) {
-  const said = make("span", {role: "status", id: "judged"}, "which is being checked here");
+  const said = make("span", {role: "status", id: "judged"}, "Being checked here …");
   const judge = async () => {
     const text = await collection.find(name);
     const oracle = new Oracle(finder, new TextEncoder().encode(text ?? ""));
-    if (!(await oracle.isAble())) return "not checked here: this page’s module has no calls for it";
-    return `checked here in ${(await oracle.check()).toFixed(0)} ms`;
+    if (!(await oracle.isAble())) return "Not checked here: this page’s module has no calls for it.";
+    return `Checked here in ${(await oracle.check()).toFixed(0)} ms.`;
   };
   const failed = (/** @type {unknown} */ failure) =>
-      `${isNo(failure) ? "which the checker refuses" : "not checked here"}: ${told(failure)}`;
+      `${isNo(failure) ? "Refused here" : "Not checked here"}: ${told(failure)}`;
   judge().then((words) => (said.textContent = words), (failure) => (said.textContent = failed(failure)));
   return said;
 }

@@ -45,7 +45,7 @@ function theorem(page, part) {
   const certificate = make("a", {href: gameAddress(name)}, "a certificate of the atlas");
   return make(
       "p", {class: "partial", id: "theorem"}, explained("No finite quotient"), `: ${theoremOf(part)} This is by `,
-      certificate, ", ", judged(page, name), ".");
+      certificate, ". ", judged(page, name));
 }
 
 /**
@@ -58,8 +58,7 @@ function theorem(page, part) {
 function partsTable({games}, code, infinite, shown) {
   const link = (/** @type {string} */ name, /** @type {string} */ words) =>
       make("a", {href: gameAddress(name), "aria-current": name === shown && "page"}, words);
-  const finite =
-      (games.get(code) ?? []).map(({name, last, order}) => link(name, `heaps to ${last}, of order ${order}`));
+  const finite = (games.get(code) ?? []).map(({name, last, order}) => link(name, `heaps to ${last} (order ${order})`));
   const endless = infinite.map((it) => link(infiniteName(it), `heaps to ${partWords(it)}`));
   const row = (/** @type {string} */ name, /** @type {Node[]} */ links) =>
       links.length > 0 && make("tr", {}, make("th", {scope: "row"}, name), make("td", {}, separated(links)));

@@ -52,12 +52,12 @@ def returns(it, counts, steps):
 def searches(it, counts, steps):
     it.write("#code", "0.77")
     wanted = ["0.77 Kayles", *(f"0.77{digit}" for digit in range(1, 8))]
-    it.wait(lambda: it.texts(CODES) == wanted)
+    it.wait(lambda: it.seen(CODES) == wanted)
     steps.expect("games are sought by their code", True, it.text(".count"))
     it.one("#code").send_keys(Keys.BACKSPACE * 4)
     it.write("#code", "kayles")
     it.listed(2)
-    steps.expect("and by their name", it.texts(CODES) == ["0.07 Dawson’s Kayles", "0.77 Kayles"], it.texts(CODES))
+    steps.expect("and by their name", it.seen(CODES) == ["0.07 Dawson’s Kayles", "0.77 Kayles"], it.seen(CODES))
     it.one("#code").send_keys(Keys.BACKSPACE * 6)
     it.write("#period", "1-19")
     Select(it.one("#kind")).select_by_value("tame")

@@ -64,6 +64,10 @@ class Browser:
     def texts(self, selector):
         return self.run("return [...document.querySelectorAll(arguments[0])].map((it) => it.textContent)", selector)
 
+    def seen(self, selector):
+        """As texts, without what isn't shown."""
+        return self.run("return [...document.querySelectorAll(arguments[0])].map((it) => it.innerText)", selector)
+
     def said(self, selector, *words):
         """The text of an element, once it has one of the words in it."""
         return self.wait(lambda: (said := self.text(selector)) and any(word in said for word in words) and said)

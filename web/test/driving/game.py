@@ -116,13 +116,13 @@ def known(it, program, steps):
     """What is known of a game without a finite quotient stands first, the strongest above."""
     said = it.said("#verdict", "yes 0.07")
     steps.expect("the certificate of a code is its furthest part", said.startswith("yes 0.07 order 638 heaps 33"), said)
-    theorem = it.said("#theorem", "checked here in", "not checked", "refuses")
-    holds = "the heaps 1 to 34 without 33 of 0.07 is infinite" in theorem and "checked here in" in theorem
-    steps.expect("that it has no finite quotient is told, and checked", holds or "not checked" in theorem, theorem)
+    theorem = it.said("#theorem", "Checked here in", "Not checked", "Refused")
+    holds = "the heaps 1 to 34 without 33 of 0.07 is infinite" in theorem and "Checked here in" in theorem
+    steps.expect("that it has no finite quotient is told, and checked", holds, theorem)
     tops = it.run("return ['#theorem', '#known table', '#verdict'].map((it) => document.querySelector(it).offsetTop)")
     steps.expect("before all else", tops == sorted(tops), tops)
     rows = [[link.text for link in row.find_elements("css selector", "a")] for row in it.all("#known tr")]
-    finite = ["heaps to 33, of order 638", "heaps to 24, of order 24"]
+    finite = ["heaps to 33 (order 638)", "heaps to 24 (order 24)"]
     steps.expect(
         "the furthest parts are named first", rows[0][0] == "heaps to 34 without 33" and rows[1] == finite, rows
     )

@@ -44,6 +44,7 @@ def drive(it, program, steps):
             wide, most = it.run(WIDTHS)
             steps.expect(f"a phone of 360 pixels, {scheme}, {view}", wide <= most == 360, f"{wide} of {most}")
             it.picture(f"phone-{scheme}-{view.split('=')[0]}")
+    lists(it, steps)
     it.emulate(prefers_color_scheme="dark", prefers_reduced_motion="reduce")
     for view in VIEWS:
         shown(it, view)
@@ -59,6 +60,16 @@ def drive(it, program, steps):
     tabs(it, steps)
     keys(it, program, steps)
     old(it, steps)
+
+
+def lists(it, steps):
+    """On a phone the list has the names of games, and a sign for those without a finite quotient."""
+    shown(it, "atlas=code=kayles")
+    it.listed(2)
+    seen = [text.split() for text in it.seen(".list tbody td:first-child")]
+    wide = it.run("return document.querySelector('.list').scrollWidth")
+    wanted = [["0.07", "∞", "Dawson’s", "Kayles"], ["0.77", "Kayles"]]
+    steps.expect("a phone's list tells names, and what is infinite", seen == wanted and wide <= 360, f"{seen}, {wide}")
 
 
 def prints(it, steps):
