@@ -4,6 +4,7 @@ import {LIMIT} from "../calls.js";
 
 import {make} from "./dom.js";
 import {outcomeByPlays} from "./plays.js";
+import {listOf} from "./positions.js";
 import {Failure} from "./prover.js";
 
 /** @type {Record<number, string>} */
@@ -71,7 +72,15 @@ export function told(failure) {
     return `No verdict: this page failed (${failure instanceof Error ? failure.message : failure}).`;
   if (failure.kind === "stopped") return "Stopped.";
   if (failure.kind === "failed") return `No verdict: the module or its worker failed (${failure.message}).`;
-  return `no ${failure.message}: ${REASONS[failure.status ?? 0] ?? "refused"}`;
+  return `no ${messageOf(failure)}: ${REASONS[failure.status ?? 0] ?? "refused"}`;
+}
+
+/**
+ * The message of a refusal, with its position in short.
+ * @param {Failure} failure
+ */
+function messageOf({message, heaps}) {
+  return heaps ? `${message.split(" at [")[0]} at [${listOf(heaps)}]` : message;
 }
 
 /**

@@ -11,6 +11,8 @@ import {told} from "../refusals.js";
 /** @typedef {import("./present.js").Game} Game */
 /** @typedef {import("../main.js").Page} Page */
 
+const NO_POSITION = "A position is a list of heaps of 1 to 10^18, such as 2 5 7. The one without heaps is 0.";
+
 /**
  * @param {Page} page
  * @param {Game} game
@@ -34,7 +36,7 @@ export function askForm(label, usual, saidOf) {
   const ask = async () => {
     const heaps = heapsOfText(field.value);
     answer.className = `verdict ${heaps ? "" : "none"}`;
-    if (!heaps) return fill(answer, "A position is a list of heaps of 1 to 10^18, such as 2 5 7.");
+    if (!heaps) return fill(answer, NO_POSITION);
     try {
       fill(answer, ...(await saidOf(heaps)));
     } catch (failure) {

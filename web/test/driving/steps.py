@@ -1,6 +1,7 @@
 """The steps of a drive, told one by one; and the program, with which answers are compared."""
 import functools
 import importlib
+import itertools
 import pathlib
 import subprocess
 import sys
@@ -33,6 +34,13 @@ class Counts:
         self.monoids = len(set(program.module("isomorphism").classes_of(monoids)))
         self.kinds = {name: sum(it.kind.startswith(name) for it in full) for name in ("tame", "wild")}
         self.short = sum(it.kind.startswith("tame") and int(it.words["period"]) < 20 for it in full)
+
+
+def counted(heaps):
+    """Heaps, of which a run of more than four equal ones is counted."""
+    for size, run in itertools.groupby(heaps):
+        same = list(run)
+        yield from [f"{len(same)}·{size}"] if len(same) > 4 else same
 
 
 class Program:
@@ -81,4 +89,4 @@ class Program:
         """The line of a verdict, with the failing position behind it as the page writes it."""
         first, *rest = self.told("infinite" if file.suffix == ".mqi" else "check", file).splitlines()
         heaps = [word for line in rest for word in line.split()[3:] if word != "0"]
-        return f"{first} at [{', '.join(heaps)}]" if first.startswith("no 7") else first
+        return f"{first} at [{', '.join(counted(heaps))}]" if first.startswith("no 7") else first
