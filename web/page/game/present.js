@@ -13,6 +13,7 @@ import {alertOf, isNo, toldOfCertificate} from "../refusals.js";
 import {askSection} from "./ask.js";
 import {certificateSection} from "./certificate_section.js";
 import {heapSection} from "./heaps.js";
+import {kindNote} from "./kind_note.js";
 import {linksOf} from "./links.js";
 import {pictureSection} from "./picture_section.js";
 import {quotientSection, ruleSection} from "./quotient.js";
@@ -43,10 +44,10 @@ const NOT_DESCRIBED = 16;
 export async function present(page, root, bytes, isGame = false) {
   if (isInfinite(bytes)) return presentInfinite(page, root, bytes, isGame);
   const verdict = make("p", {class: "verdict", id: "verdict", role: "status"}, "Checking …");
-  fill(root, verdict);
+  fill(root, kindNote(bytes), verdict);
   try {
     const {time} = await page.prover.ask("check", bytes);
-    if (root.firstChild !== verdict) return;
+    if (verdict.parentNode !== root) return;
     const certificate = fieldsOf(new TextDecoder().decode(bytes));
     verdict.classList.add("yes");
     const taken = time < 1 ? "less than 1 ms" : `${time.toFixed(0)} ms`;
@@ -72,9 +73,9 @@ async function presentGame(page, root, bytes, certificate, verdict, isGame) {
   root.append(describing);
   try {
     const game = await gameOf(page, bytes, certificate);
-    if (root.firstChild === verdict) root.append(...sectionsOf(page, game, isGame));
+    if (verdict.parentNode === root) root.append(...sectionsOf(page, game, isGame));
   } catch (failure) {
-    if (root.firstChild === verdict) root.append(alertOf(failure));
+    if (verdict.parentNode === root) root.append(alertOf(failure));
   } finally {
     describing.remove();
   }

@@ -4,6 +4,7 @@ import {playAddress} from "../address.js";
 import {fill, make} from "../dom.js";
 import {askForm, outcomeOf} from "../game/ask.js";
 import {certificateOf} from "../game/certificate_section.js";
+import {kindNote} from "../game/kind_note.js";
 import {linksOf} from "../game/links.js";
 import {ruleSection} from "../game/quotient.js";
 import {Oracle} from "../oracle.js";
@@ -31,12 +32,12 @@ const NOT_CHECKED =
  */
 export async function presentInfinite(page, root, bytes, isGame = false) {
   const verdict = make("p", {class: "verdict", id: "verdict", role: "status"}, "Checking …");
-  fill(root, verdict);
+  fill(root, kindNote(bytes), verdict);
   try {
     const oracle = new Oracle(page.prover, bytes);
     if (!(await oracle.isAble())) return showUnchecked(root, verdict, bytes);
     const time = await oracle.check();
-    if (root.firstChild !== verdict) return;
+    if (verdict.parentNode !== root) return;
     const certificate = infiniteOf(new TextDecoder().decode(bytes));
     verdict.classList.add("yes");
     fill(verdict, infiniteVerdict(certificate), make("span", {class: "soft"}, ` (checked here in ${inWords(time)})`));

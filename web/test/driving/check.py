@@ -26,6 +26,7 @@ def drive(it, program, steps):
     for file in program.samples():
         said = judged(it, lambda: it.one("#file").send_keys(str(file)))
         steps.expect(f"the file {file.name}", said.startswith(program.verdict(file)), said)
+    others(it, program, steps)
     large(it, program, steps)
     good = program.certificate("0.33")
     said = judged(it, lambda: it.run(DROP, base64.b64encode(good.read_bytes()).decode()))
@@ -50,6 +51,27 @@ def drive(it, program, steps):
     it.one(".links a").click()
     it.wait(lambda: it.all(".heap"))
     steps.expect("a certificate from elsewhere is played", it.run("return location.hash") == "#play=0.75/8:3,4,5", said)
+
+
+def others(it, program, steps):
+    """Texts of other kinds, which are told for what they are before the verdict."""
+    good = program.certificate("0.33").read_bytes()
+    texts = {
+        "misere certify FILE": b"table 1\ncode 0.33\norder 6\n",
+        "CR and LF": good.replace(b"\n", b"\r\n"),
+        "misere catalogue FILE": (program.root / "atlas/parts.json").read_bytes(),
+        "Find looks": b"0.33\n",
+    }
+    with tempfile.TemporaryDirectory() as folder:
+        file = pathlib.Path(folder, "other.mqc")
+        for words, text in texts.items():
+            file.write_bytes(text)
+            said = judged(it, lambda: it.one("#file").send_keys(str(file)))
+            kind = it.text(".told > :first-child")
+            steps.expect(f"a text for which {words} is said", words in kind and said.startswith("no 1 Text"), kind)
+        file.write_bytes(good.replace(b"portion 1 4", b"portion 1 5"))
+        said = judged(it, lambda: it.one("#file").send_keys(str(file)))
+        steps.expect("a certificate is told by its verdict alone", not it.all("#kind"), said)
 
 
 def large(it, program, steps):
