@@ -18,3 +18,7 @@ declare module "node:test" {
   export default function test(name: string, body: (t: Row) => unknown): Promise<void>;
   export default function test(name: string, how: {skip: string | false}, body: (t: Row) => unknown): Promise<void>;
 }
+
+declare module "node:zlib" {
+  export function gzipSync(data: string): Uint8Array;
+}

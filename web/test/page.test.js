@@ -7,9 +7,10 @@ import {readFileSync} from "node:fs";
 import path from "node:path";
 import process from "node:process";
 import test from "node:test";
+import {gzipSync} from "node:zlib";
 
 import {Atlas} from "../page/atlas.js";
-import {chosenOf, rowsOf, wordOf} from "../page/atlas/choosing.js";
+import {chosenOf, isRead, rowsOf, unread, wordOf} from "../page/atlas/choosing.js";
 import {csvOf, jsonOf, listedOf} from "../page/atlas/listing.js";
 import {fieldsOf, lastHeap, nameOf, verdictOf} from "../page/certificate.js";
 import {certificateText} from "../page/certificate_text.js";
@@ -21,10 +22,11 @@ import {memberOf, writtenOf} from "../page/infinite/family.js";
 import {infiniteName, infiniteOf, infiniteVerdict, isInfinite, speaksOf} from "../page/infinite/fields.js";
 import {readingOf} from "../page/play/reading.js";
 import {outcomeByPlays} from "../page/plays.js";
-import {heapsOfText} from "../page/positions.js";
+import {heapsOfText, listOf} from "../page/positions.js";
 import {Failure} from "../page/prover.js";
-import {reasonOf, toldOfCertificate} from "../page/refusals.js";
+import {reasonOf, told, toldOfCertificate} from "../page/refusals.js";
 import {TERMS} from "../page/terms.js";
+import {kindOfText} from "../page/text_kinds.js";
 
 import {atlas, fileOf, infinite, parts, printed, refusedInfinite, root, sample, samples} from "./setup.js";
 
@@ -271,9 +273,49 @@ test("a certificate of an infinite quotient is read", () => {
 });
 
 test("a position is a list of heaps", () => {
-  assert.deepEqual(heapsOfText("2, 5+7 0"), [2n, 5n, 7n]);
+  assert.deepEqual(heapsOfText("2, 5+7"), [2n, 5n, 7n]);
   assert.deepEqual(heapsOfText("1000000000000000000"), [10n ** 18n]);
-  for (const none of ["1000000000000000001", "-1", "2.5", "two"]) assert.equal(heapsOfText(none), null);
+  for (const empty of ["0", " 0 ", ""]) assert.deepEqual(heapsOfText(empty), []);
+  for (const none of ["1000000000000000001", "-1", "2.5", "two", "3 5 0", "0 0", "03"])
+    assert.equal(heapsOfText(none), null, none);
+});
+
+test("a long run of equal heaps is counted", () => {
+  assert.equal(listOf([]), "");
+  assert.equal(listOf([1n, 1n, 1n, 1n, 3n]), "1, 1, 1, 1, 3");
+  assert.equal(listOf([...Array(4094).fill(1n), 3n, 3n]), "4094·1, 3, 3");
+  const failure = new Failure("refused", `7 Outcome at [${Array(9).fill(2).join(", ")}]`, 7, Array(9).fill(2n));
+  assert.match(told(failure), /^no 7 Outcome at \[9·2\]: /);
+});
+
+/** @type {[string, RegExp][]} */
+const KINDS = [
+  ["", /^There is nothing/],
+  ["table 1\ncode 0.33\n", /misere certify FILE/],
+  ["{\"version\":1,\"entries\":[]}", /misere catalogue FILE/],
+  ["[1]", /JSON/],
+  ["Q(0.33) = < a,b | a^2=1 >\n", /misere describe/],
+  ["yes 0.33 order 6 start 1 period 3\n", /an answer of the program/],
+  ["open 1 0.33.mqc 100\n", /misere desk FILE/],
+  ["0.77\n", /Find looks/],
+  ["mqc 1\r\ncode 0.33\r\n", /CR and LF/],
+  ["mqi 1\r\ncode 0.354\r\n", /CR and LF/],
+];
+
+test("a text of another kind is told what it is", () => {
+  const encoder = new TextEncoder();
+  for (const [text, wanted] of KINDS) assert.match(kindOfText(encoder.encode(text)), wanted, text);
+  assert.match(kindOfText(gzipSync("mqc 1\n")), /unpack it/);
+  assert.match(kindOfText(Uint8Array.of(0xff, 0xfe, 0x6d, 0)), /UTF-16/);
+  assert.match(kindOfText(encoder.encode("\ufeffmqc 1\n")), /byte order mark/);
+  const certificates = [...samples.filter(({name}) => !name.includes("/refused/")), ...infinite];
+  for (const {name, bytes} of certificates) assert.equal(kindOfText(bytes), "", name);
+});
+
+test("a field of numbers that says none is named", () => {
+  for (const read of ["", " ", "8", "6-20", "6–", "-9", " 6 - 20 "]) assert.ok(isRead(read), read);
+  for (const none of ["6-x", "abc", "-", "6-7-8", "1.5"]) assert.deepEqual(unread(chosenOf(`order=${none}`)), [none]);
+  assert.deepEqual(unread(chosenOf("order=8&period=x&code=abc")), ["x"]);
 });
 
 /**
@@ -323,8 +365,10 @@ test("a certificate that fails at a position is told with who wins that", () => 
   const [short, long, other] = [[2n, 3n], [10n ** 18n]]
                                    .map((heaps) => toldOfCertificate(failing(heaps), () => "0.33"))
                                    .concat(toldOfCertificate(new Failure("refused", "2 Law", 2), () => "0.33"));
-  assert.match(short, /^no 7 Outcome: .* fails at this position\. Its true outcome is N, won by the player to move, /);
-  assert.match(long, /^no 7 Outcome: .* This page doesn’t tell its true outcome/);
+  assert.match(
+      short,
+      /^no 7 Outcome at \[2, 3\]: .* fails at this position\. Its true outcome is N, won by the player to move, /);
+  assert.match(long, /^no 7 Outcome at \[1000000000000000000\]: .* This page doesn’t tell its true outcome/);
   assert.match(other, /^no 2 Law: [^.]*$/);
 });
 

@@ -117,13 +117,32 @@ function isMeant(code, sought) {
   return /[^0-9a-f]/.test(sought) ? isNamed(code, sought) : code.includes(sought);
 }
 
+/** A number, or two with a dash between, of which one may be left out. */
+const RANGE = /^\s*(\d*)\s*([-–]?)\s*(\d*)\s*$/;
+
+/**
+ * Whether a field of numbers says some, or is empty.
+ * @param {string} text
+ */
+export function isRead(text) {
+  return RANGE.test(text) && /\d|^\s*$/.test(text);
+}
+
+/**
+ * What stands in such fields and says no numbers, so that nothing is sought by it.
+ * @param {Chosen} chosen
+ */
+export function unread({order, portion, period, tame}) {
+  return [order, portion, period, tame].filter((it) => !isRead(it));
+}
+
 /**
  * Whether a number is the one that is sought, or between two; null is never. A text that says neither seeks all.
  * @param {number | null} number
  * @param {string} sought
  */
 function isWithin(number, sought) {
-  const [, least, dash, most] = sought.match(/^\s*(\d*)\s*([-–]?)\s*(\d*)\s*$/) ?? [];
+  const [, least, dash, most] = sought.match(RANGE) ?? [];
   if (!least && !most) return true;
   if (number === null) return false;
   if (!dash) return number === Number(least);

@@ -2,6 +2,8 @@
 
 import {choice, labelled, make} from "../dom.js";
 
+import {isRead} from "./choosing.js";
+
 /** @typedef {import("./choosing.js").Chosen} Chosen */
 
 /**
@@ -12,8 +14,13 @@ export function controls(chosen, choose) {
   const written = (
       /** @type {"code" | "order" | "portion" | "period" | "tame"} */ name,
       /** @type {Record<string, any>} */ more) => {
-    const oninput = () => choose({[name]: field.value});
+    const mark = () => field.setAttribute("aria-invalid", String(name !== "code" && !isRead(field.value)));
+    const oninput = () => {
+      mark();
+      choose({[name]: field.value});
+    };
     const field = make("input", {type: "search", id: name, value: chosen[name], autocomplete: "off", oninput, ...more});
+    mark();
     return field;
   };
   const picked = (/** @type {"speaks" | "kind" | "each"} */ name, /** @type {[string, string][]} */ options) => {

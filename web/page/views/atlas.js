@@ -1,10 +1,11 @@
 // The games of the atlas: to search, to filter, to sort, to group, and to check all of them.
 
 import {checkingOfAll} from "../atlas/check_all.js";
-import {chosenOf, rowsOf, wordOf} from "../atlas/choosing.js";
+import {chosenOf, rowsOf, unread, wordOf} from "../atlas/choosing.js";
 import {controls} from "../atlas/controls.js";
 import {csvOf, jsonOf, listedOf} from "../atlas/listing.js";
 import {headOf, rowOf} from "../atlas/table.js";
+import {isCode} from "../codes.js";
 import {fill, focusOn, make} from "../dom.js";
 import {save} from "../saving.js";
 import {glossary} from "../terms.js";
@@ -24,10 +25,14 @@ export async function atlasView(page, root, word) {
   const {atlas} = page;
   let chosen = chosenOf(word);
   const [head, body, count] = [make("tr"), make("tbody"), make("p", {class: "count", role: "status"})];
+  const note = make("p", {class: "partial", id: "note", role: "status"});
   const show = async () => {
     const now = chosen;
     const groups = rowsOf(atlas, now);
     fill(count, countOf(groups.length, now, atlas));
+    const told = noteOf(atlas, now);
+    note.hidden = told.length === 0;
+    fill(note, told);
     fill(head, ...headOf(now, choose));
     fill(body, ...groups.slice(0, FIRST_ROWS).map((it) => rowOf(atlas, now, it)));
     await new Promise((done) => setTimeout(done));
@@ -51,7 +56,7 @@ export async function atlasView(page, root, word) {
   const table = make("table", {class: "list"}, make("thead", {}, head), body);
   fill(
       root, make("h1", {}, "The atlas of small games"), make("p", {}, introductionOf(atlas)), checkingOfAll(page),
-      controls(chosen, choose), glossary(WORDS), make("div", {class: "row"}, count, savings), key,
+      controls(chosen, choose), glossary(WORDS), note, make("div", {class: "row"}, count, savings), key,
       make("div", {class: "scroll"}, table));
   await show();
 }
@@ -74,4 +79,17 @@ function countOf(count, {each}, {games, entries}) {
   if (each === "game") return `${count} of ${games.size} games`;
   if (each === "certificate") return `${count} of ${entries.length} certificates of finite quotients`;
   return `${count} ${each === "quotient" ? "quotients" : "bipartite monoids up to isomorphism"}`;
+}
+
+/**
+ * What is told of fields by which nothing is sought, and of a code that isn't here.
+ * @param {import("../atlas.js").Atlas} atlas
+ * @param {Chosen} chosen
+ */
+function noteOf({games}, chosen) {
+  const told = unread(chosen).map((it) => `“${it}” chooses nothing: write a number, or two such as 6-20. `);
+  const code = chosen.code.trim();
+  if (!isCode(code) || games.has(code)) return told;
+  const link = make("a", {href: `#find=${code}`}, "Look for its quotient");
+  return [...told, `This page has no certificate of ${code}. `, link, "."];
 }

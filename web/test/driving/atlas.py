@@ -24,6 +24,7 @@ def drive(it, program, steps):
     steps.expect("all games are listed", len(it.all(ROWS)) == counts.all, f"ready after {ready:.0f} ms")
     it.picture("atlas")
     searches(it, counts, steps)
+    notes(it, counts, steps)
     saves(it, counts, steps)
     sorts(it, counts, steps)
     it.open("#atlas=kind=wild&speaks=full&by=order&down=true")
@@ -103,6 +104,22 @@ def further(it, steps):
         steps.expect(f"0.07 is found by its order {order}", link.endswith(address), link)
     it.go("#atlas")
     it.wait(lambda: not it.run("return document.querySelector('#order').value"))
+
+
+def notes(it, counts, steps):
+    """A field that says no numbers is named, and a code that isn't here can be looked for."""
+    it.write("#order", "6-x")
+    said = it.said("#note", "6-x")
+    marked = it.one("#order").get_attribute("aria-invalid")
+    steps.expect("a filter that is none is told", marked == "true" and len(it.all(ROWS)) == counts.all, said)
+    it.one("#order").send_keys(Keys.BACKSPACE * 3)
+    it.write("#code", "0.9999")
+    said = it.said("#note", "0.9999")
+    link = it.one("#note a").get_attribute("href")
+    steps.expect("a code that isn't here is to be looked for", link.endswith("#find=0.9999"), said)
+    it.one("#code").send_keys(Keys.BACKSPACE * 6)
+    it.listed(counts.all)
+    steps.expect("and nothing is told where nothing is amiss", not it.one("#note").is_displayed())
 
 
 def saves(it, counts, steps):

@@ -14,6 +14,9 @@ UNNAMED = """return [...document.querySelectorAll('button, input, select, textar
     .map((it) => it.outerHTML.slice(0, 80))"""
 TRANSITIONS = """return [...document.querySelectorAll('.token')].filter((it) =>
     getComputedStyle(it).transitionDuration !== '0s').length"""
+# What is to be pressed or written, but for words of the page and headings of lists
+CONTROLS = """return [...document.querySelectorAll('button:not(.term, th button), input, select, textarea')]
+    .filter((it) => it.checkVisibility()).map((it) => it.outerHTML.slice(0, 80))"""
 SHEETS = ("0.77", "0.07/24", "0.15", "0.75")
 # Views with few links
 TABBED = ("atlas=order=20-36", "game=0.33", "play=0.77:3,4", "check", "find=0.33", "about")
@@ -81,6 +84,13 @@ def prints(it, steps):
             file.write_bytes(base64.b64decode(told["data"]))
             pages = file.read_bytes().count(b"/Type /Page\n")
         steps.expect(f"{code} prints on one or two sheets", 1 <= pages <= 2, pages)
+    it.command("Emulation.setEmulatedMedia", media="print")
+    for view in ("atlas", "game=0.77", "check"):
+        shown(it, view)
+        seen = it.run(CONTROLS)
+        steps.expect(f"{view} has no buttons and no fields on paper", not seen, seen)
+    it.picture("print-check")
+    it.emulate()
 
 
 def tabs(it, steps):
