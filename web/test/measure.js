@@ -1,6 +1,6 @@
 /**
  * Measures the module in Node beside the program, by the processor's time: of the first run and the least of some. No
- * test: run it by hand.
+ * test: `measures` asks it, with --json, for docs/WEB.md.
  */
 import {spawnSync} from "node:child_process";
 import process from "node:process";
@@ -61,11 +61,26 @@ function spentByProgram(words) {
 const runs = (/** @type {() => number} */ one) => Array.from({length: RUNS}, one);
 const shown = (/** @type {number} */ time) => `${time.toFixed(1)} ms`.padStart(12);
 
-console.log(`${"".padEnd(26)}       first       least     program  memory`);
-for (const [name, call, words] of ROWS) {
+
+/**
+ * The times of a row in milliseconds, 0 where the program has no such command, and the memory behind it.
+ * @param {(typeof ROWS)[number]} row
+ */
+function measured([, call, words]) {
   const misere = newMisere(), times = runs(() => spent(() => call(misere)));
-  const beside = Math.min(...runs(() => words.reduce((sum, it) => sum + spentByProgram(it), 0)));
-  const size = `${(misere.memory().size / 2 ** 20).toFixed(1)} MiB`.padStart(9);
-  console.log(
-      name.padEnd(26) + shown(times[0]) + shown(Math.min(...times)) + (beside ? shown(beside) : " ".repeat(12)) + size);
+  const program = Math.min(...runs(() => words.reduce((sum, it) => sum + spentByProgram(it), 0)));
+  return {first: times[0], least: Math.min(...times), program, memory: misere.memory().size};
 }
+
+/** @param {[string, ReturnType<typeof measured>]} row */
+function lineOf([name, {first, least, program, memory}]) {
+  const size = `${(memory / 2 ** 20).toFixed(1)} MiB`.padStart(9);
+  return name.padEnd(26) + shown(first) + shown(least) + (program ? shown(program) : " ".repeat(12)) + size;
+}
+
+/** @type {[string, ReturnType<typeof measured>][]} */
+const told = ROWS.map((row) => [row[0], measured(row)]);
+const head = `${"".padEnd(26)}       first       least     program  memory`;
+console.log(
+    process.argv.includes("--json") ? JSON.stringify(Object.fromEntries(told)) :
+                                      [head, ...told.map(lineOf)].join("\n"));
