@@ -89,6 +89,7 @@ const INFINITE_CALLS = {
   misere_infinite_close: ["&mut OpenedInfinite"],
   misere_infinite_outcomes: ["&mut OpenedInfinite", "&[u64]", "&[u64]", "&mut [u32]"],
   misere_infinite_answers: ["&mut OpenedInfinite", "&[u64]", "&[u64]", "&mut [MisereAnswer]"],
+  misere_infinite_describe: ["&mut OpenedInfinite", "u32", "&mut [u8]", "&mut u64"],
 };
 /** The fields of a MisereAnswer, each a number of 64 bits. */
 const FIELDS = ["kind", "heap", "first", "second", "third"];
@@ -275,7 +276,7 @@ export class Misere {
     return this.#text("misere_solve_why", [new TextEncoder().encode(code), ...bounds], MOST);
   }
 
-  /** Whether the module has the calls for infinite quotients, which the next four need. */
+  /** Whether the module has the calls for infinite quotients, which the next five need. */
   knowsInfinite() {
     return Object.keys(INFINITE_CALLS).every((it) => it in this.#instance.exports);
   }
@@ -313,6 +314,15 @@ export class Misere {
   infiniteAnswers(bytes, positions, limit = LIMIT) {
     const told = new BigUint64Array(FIELDS.length * positions.length);
     return answersOf(this.#many("misere_infinite_answers", [this.#open(bytes, limit)], positions, told));
+  }
+
+  /**
+   * What a certificate of an infinite quotient says, as plain text, for LaTeX or in JSON.
+   * @param {Uint8Array} bytes
+   * @param {{output?: "description" | "latex" | "json", limit?: number}} how
+   */
+  describeInfinite(bytes, {output = "description", limit = LIMIT} = {}) {
+    return this.#text("misere_infinite_describe", [this.#open(bytes, limit), OUTPUTS.indexOf(output)]);
   }
 
   /** Gives back the memory of an infinite quotient that is open, if there is one. */
@@ -415,7 +425,7 @@ export class Misere {
 
   /**
    * The text that a call tells, by a second call where it is longer than the room for it.
-   * @param {keyof CALLS} name
+   * @param {keyof (CALLS & INFINITE_CALLS)} name
    * @param {(number | Numbers)[]} words
    * @returns {string}
    */

@@ -46,6 +46,15 @@ export class Oracle {
   }
 
   /**
+   * What it says, as a text: plain, for LaTeX or in JSON.
+   * @param {string} output
+   * @returns {Promise<string>}
+   */
+  async describe(output) {
+    return (await this.#prover.ask(this.#isInfinite ? "describeInfinite" : "describe", this.#bytes, {output})).answer;
+  }
+
+  /**
    * The first winning move in a position, if there is one.
    * @param {Position} heaps
    * @returns {Promise<Answer>}

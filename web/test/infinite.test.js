@@ -79,6 +79,17 @@ test("the family of 0.354 is the one that docs/INFINITE.md tells", {skip}, () =>
   assert.deepEqual([...misere.infiniteOutcomes(bytes, positions)], cells.map((it) => Number(!isLost(it))));
 });
 
+/** @type {[("description" | "latex" | "json"), string[]][]} */
+const FORMS = [["description", []], ["latex", ["--latex"]], ["json", ["--json"]]];
+
+test("what a certificate says is told as the program shows it", {skip}, () => {
+  for (const name of ["0.354_heaps_5.mqi", "4.76_heaps_6.mqi", "0.07_heaps_34_without_33.mqi"]) {
+    const bytes = infinite.find((it) => it.name === name)?.bytes ?? sample(name), file = fileOf(bytes, name);
+    for (const [output, words] of FORMS)
+      assert.equal(misere.describeInfinite(bytes, {output}), printed("infinite", file, "--show", ...words), name);
+  }
+});
+
 test("base and what is far up have other outcomes", {skip}, () => {
   for (const {name, bytes} of infinite.filter(({bytes}) => bytes.length < MOST_ASKED)) {
     const certificate = infiniteOf(bytes.toString());
@@ -94,6 +105,7 @@ test("refusals", {skip}, () => {
   assert.equal(told(() => misere.infiniteAnswers(small, [[0]])), "refused 10");
   assert.equal(told(() => misere.infiniteAnswers(sample("0.33"), [[1]])), "refused 1");
   assert.equal(told(() => misere.check(small)), "refused 1");
+  assert.equal(told(() => misere.describeInfinite(sample("0.33"))), "refused 1");
   assert.deepEqual([misere.infiniteOutcomes(small, []).length, misere.infiniteAnswers(small, []).length], [0, 0]);
 });
 

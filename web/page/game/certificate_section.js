@@ -15,6 +15,8 @@ const FORMS = {
   singular: "for Singular",
   gap: "for GAP"
 };
+/** Those of an infinite quotient. */
+const INFINITE_FORMS = /** @type {const} */ (["description", "latex", "json"]);
 
 /**
  * @param {Page} page
@@ -30,10 +32,15 @@ export function certificateSection(page, {bytes, certificate, description}) {
   return keptSection(certificate.text, file, forms);
 }
 
-/** @param {import("../infinite/fields.js").Infinite} certificate */
-export function certificateOf({text, code, last, leftOut}) {
+/**
+ * @param {import("../infinite/fields.js").Infinite} certificate
+ * @param {((output: string) => Promise<string>) | null} describe what describes it, where the module can
+ */
+export function infiniteSection({text, code, last, leftOut}, describe) {
   const without = leftOut.length ? `_without_${leftOut.join("_")}` : "";
-  return keptSection(text, `${code}_heaps_${last}${without}.mqi`, []);
+  /** @type {Form[]} */
+  const forms = INFINITE_FORMS.map((output) => [output, FORMS[output], async () => describe?.(output) ?? ""]);
+  return keptSection(text, `${code}_heaps_${last}${without}.mqi`, describe ? forms : []);
 }
 
 /**

@@ -3,13 +3,13 @@
 import {playAddress} from "../address.js";
 import {fill, make} from "../dom.js";
 import {askForm, outcomeOf} from "../game/ask.js";
-import {certificateOf} from "../game/certificate_section.js";
+import {infiniteSection} from "../game/certificate_section.js";
 import {kindNote} from "../game/kind_note.js";
 import {linksOf} from "../game/links.js";
 import {ruleSection} from "../game/quotient.js";
 import {Oracle} from "../oracle.js";
 import {MOST_HEAPS_PLAYED} from "../play/bounds.js";
-import {isNo, toldOfCertificate} from "../refusals.js";
+import {isNo, told, toldOfCertificate} from "../refusals.js";
 import {explained} from "../terms.js";
 
 import {familyPicture, memberOf, writtenOf} from "./family.js";
@@ -66,7 +66,8 @@ function showUnchecked(root, verdict, bytes) {
   if (!certificate.code || !certificate.last) return;
   const said = `It claims: ${theoremOf(certificate)}`;
   root.append(
-      make("p", {class: "partial", id: "theorem"}, said), ruleSection(certificate.code), certificateOf(certificate));
+      make("p", {class: "partial", id: "theorem"}, said), ruleSection(certificate.code),
+      infiniteSection(certificate, null));
 }
 
 /**
@@ -84,7 +85,8 @@ function sectionsOf(page, oracle, certificate, isGame) {
     factSection(certificate),
     familySection(oracle, name, certificate),
     askSection(oracle, name, certificate),
-    certificateOf(certificate),
+    describedSection(oracle),
+    infiniteSection(certificate, (output) => oracle.describe(output)),
   ];
 }
 
@@ -139,6 +141,26 @@ function askSection(oracle, name, certificate) {
   };
   const label = `Heaps, of ${heapsTold(certificate).replace("the heaps ", "")}`;
   return askForm(label, usual.join(" "), saidOf);
+}
+
+/**
+ * All that the certificate says, as the program shows it, once that is asked for.
+ * @param {Oracle} oracle
+ */
+function describedSection(oracle) {
+  const text = make("pre", {class: "described"}, "…");
+  const all = make(
+      "details", {id: "described"}, make("summary", {}, "Its heaps, tracks and regions, as the program shows them"),
+      text);
+  const show = async () => {
+    try {
+      fill(text, await oracle.describe("description"));
+    } catch (failure) {
+      fill(text, told(failure));
+    }
+  };
+  all.addEventListener("toggle", show, {once: true});
+  return make("section", {class: "screen"}, make("h2", {}, "In full"), all);
 }
 
 /**

@@ -90,7 +90,11 @@ def keeps(it, program, steps):
         it.wait(lambda: file.stat().st_size >= len(wanted))
         steps.expect("the certificate is saved", file.read_text() == wanted, f"{file.name}, {len(wanted)} bytes")
     forms = ("description", "latex", "json", "singular", "gap")
-    for name in ("copy", *(f"copy-{form}" for form in forms)):
+    copies(it, steps, ("copy", *(f"copy-{form}" for form in forms)))
+
+
+def copies(it, steps, buttons):
+    for name in buttons:
         it.run("document.querySelector('#copy').parentNode.querySelector('[role=status]').textContent = ''")
         it.one(f"#{name}").click()
         said = it.said(".row [role=status]", "opied", "verdict")

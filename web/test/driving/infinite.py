@@ -2,7 +2,7 @@
 from selenium.webdriver.common.keys import Keys
 
 from .check import judged
-from .game import answered
+from .game import answered, copies
 from .play import to_its_end
 
 NAME, FILE = "0.354/5", "0.354_heaps_5.mqi"
@@ -21,6 +21,7 @@ def drive(it, program, steps):
         return steps.expect("a module without the calls is no verdict", "no calls" in said, said)
     steps.expect("the verdict", said.startswith(program.verdict(program.certificate(FILE))), said)
     family(it, program, steps)
+    describes(it, program, steps)
     asks(it, program, steps)
     checks(it, program, steps)
     plays(it, program, steps)
@@ -40,6 +41,15 @@ def family(it, program, steps):
         seen.add(is_lost)
         wrong += [told] if is_lost != outcome.startswith("P") else []
     steps.expect("the cells of the family are the program's", not wrong, wrong or f"{len(seen)} outcomes")
+
+
+def describes(it, program, steps):
+    """All that the certificate says, shown and copied."""
+    wanted = program.told("infinite", program.certificate(FILE), "--show")
+    it.one("#described summary").click()
+    told = it.said("#described pre", "heaps", "verdict")
+    steps.expect("it is shown in full as the program does", told.strip() == wanted, told[:60])
+    copies(it, steps, ("copy", "copy-description", "copy-latex", "copy-json"))
 
 
 def counted(word):
