@@ -29,8 +29,8 @@ const REASONS = {
   33: "the rule was not seen to hold, and no position was found at which it fails; nothing is proved",
   34: "the claim is right, but its three positions do not show that the quotient is infinite",
 };
-/** The refusal with a position. */
-const OUTCOME = 7;
+/** The refusal of a text, and the one with a position. */
+const [TEXT, OUTCOME] = [1, 7];
 /** The refusals that say nothing of the certificate. */
 const NO_VERDICTS = [9, 33];
 
@@ -81,6 +81,15 @@ export function told(failure) {
  */
 function messageOf({message, heaps}) {
   return heaps ? `${message.split(" at [")[0]} at [${listOf(heaps)}]` : message;
+}
+
+/**
+ * What is told of a text that begins as a certificate does, and is none.
+ * @param {unknown} failure
+ */
+export function lineTold(failure) {
+  const isText = failure instanceof Failure && failure.status === TEXT;
+  return isText ? ". Which line is at fault says misere explain FILE." : "";
 }
 
 /**

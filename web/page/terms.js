@@ -32,7 +32,7 @@ export const TERMS = {
   "Up": "Heaps that are added: any two of base, base + up, base + 2·up, .. are told apart.",
   "Down": "Heaps that undo an up beside the base, as far as outcomes go.",
   "Same quotient": "Other codes whose certificate has the same lines but for the code.",
-  "Same monoid": "Codes whose monoids and portions are isomorphic, whichever heaps have their elements.",
+  "Same monoid": "Certificates whose monoids and portions are isomorphic, whichever heaps have their elements.",
 };
 
 /** So that each explanation has a name of its own. */

@@ -24,7 +24,7 @@ import {readingOf} from "../page/play/reading.js";
 import {outcomeByPlays} from "../page/plays.js";
 import {heapsOfText, listOf} from "../page/positions.js";
 import {Failure} from "../page/prover.js";
-import {reasonOf, told, toldOfCertificate} from "../page/refusals.js";
+import {lineTold, reasonOf, told, toldOfCertificate} from "../page/refusals.js";
 import {TERMS} from "../page/terms.js";
 import {kindOfText} from "../page/text_kinds.js";
 
@@ -370,6 +370,12 @@ test("a certificate that fails at a position is told with who wins that", () => 
       /^no 7 Outcome at \[2, 3\]: .* fails at this position\. Its true outcome is N, won by the player to move, /);
   assert.match(long, /^no 7 Outcome at \[1000000000000000000\]: .* This page doesn’t tell its true outcome/);
   assert.match(other, /^no 2 Law: [^.]*$/);
+});
+
+test("of a text that begins as a certificate it is told which command names the line", () => {
+  assert.match(lineTold(new Failure("refused", "1 Text", 1)), /misere explain FILE\.$/);
+  for (const other of [new Failure("refused", "2 Law", 2), new Failure("failed", "it ended"), new Error("x")])
+    assert.equal(lineTold(other), "");
 });
 
 test("the reason of a search is told in words", () => {

@@ -8,7 +8,7 @@ import {isInfinite} from "../infinite/fields.js";
 import {presentInfinite} from "../infinite/present.js";
 import {wordsOf} from "../monoid.js";
 import {Failure} from "../prover.js";
-import {alertOf, isNo, toldOfCertificate} from "../refusals.js";
+import {alertOf, isNo, lineTold, toldOfCertificate} from "../refusals.js";
 
 import {askSection} from "./ask.js";
 import {certificateSection} from "./certificate_section.js";
@@ -44,7 +44,8 @@ const NOT_DESCRIBED = 16;
 export async function present(page, root, bytes, isGame = false) {
   if (isInfinite(bytes)) return presentInfinite(page, root, bytes, isGame);
   const verdict = make("p", {class: "verdict", id: "verdict", role: "status"}, "Checking …");
-  fill(root, kindNote(bytes), verdict);
+  const kind = kindNote(bytes);
+  fill(root, kind, verdict);
   try {
     const {time} = await page.prover.ask("check", bytes);
     if (verdict.parentNode !== root) return;
@@ -55,7 +56,8 @@ export async function present(page, root, bytes, isGame = false) {
     await presentGame(page, root, bytes, certificate, verdict, isGame);
   } catch (failure) {
     verdict.classList.add(isNo(failure) ? "no" : "none");
-    fill(verdict, toldOfCertificate(failure, () => fieldsOf(new TextDecoder().decode(bytes)).code));
+    const codeOf = () => fieldsOf(new TextDecoder().decode(bytes)).code;
+    fill(verdict, toldOfCertificate(failure, codeOf), !kind && lineTold(failure));
   }
 }
 

@@ -16,12 +16,10 @@ export async function gameView(page, root, named) {
   const known = GAME_NAMES.get(code);
   const heading = `The game ${code}${last ? `, to heap ${last.replace("-", " without ")}` : ""}`;
   const body = make("div");
-  const shown = page.atlas.entry(name)?.name ?? name;
-  fill(
-      root, make("h1", {}, heading, known && make("span", {class: "soft"}, ` ${known}`)),
-      knownSection(page, code, shown), body);
+  const further = knownSection(page, code, page.atlas.entry(name)?.name ?? name);
+  fill(root, make("h1", {}, heading, known && make("span", {class: "soft"}, ` ${known}`)), further, body);
   const text = await page.collection.find(name);
-  if (!text) return fill(root, make("h1", {}, name || "Which game?"), unknown(code, last));
+  if (!text) return fill(root, make("h1", {}, name || "Which game?"), further, unknown(code, last));
   await present(page, body, new TextEncoder().encode(text), true);
 }
 

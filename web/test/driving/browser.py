@@ -12,7 +12,8 @@ from selenium.common.exceptions import TimeoutException
 from selenium.webdriver.common.by import By
 from selenium.webdriver.support.ui import WebDriverWait
 
-FLAGS = ["--headless=new", "--no-sandbox", "--window-size=1100,900", "--force-color-profile=srgb"]
+# (a bar to scroll by goes away with the first picture, and what stands beside it moves)
+FLAGS = ["--headless=new", "--no-sandbox", "--window-size=1100,900", "--force-color-profile=srgb", "--hide-scrollbars"]
 PHONE = {"width": 360, "height": 740, "deviceScaleFactor": 2, "mobile": True}
 
 
