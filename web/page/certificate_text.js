@@ -36,9 +36,9 @@ export function certificateText(code, quotient) {
 /**
  * The format of a certificate, which its numbers tell.
  * @param {string} code
- * @param {Certified} quotient
+ * @param {{order: number, start: number, period: number}} quotient
  */
-function formatOf(code, {order, start, period}) {
+export function formatOf(code, {order, start, period}) {
   if (order > 512 || start + period > 1025) return 3;
   return period === 0 || order > 256 || /[89a-f]/.test(code) ? 2 : 1;
 }

@@ -3,9 +3,11 @@
 import {LIMIT} from "../calls.js";
 
 import {make} from "./dom.js";
+import {lettersOf} from "./letters.js";
 import {outcomeByPlays} from "./plays.js";
 import {listOf} from "./positions.js";
 import {Failure} from "./prover.js";
+import {faultOfText} from "./text_faults.js";
 
 /** @type {Record<number, string>} */
 const REASONS = {
@@ -84,12 +86,14 @@ function messageOf({message, heaps}) {
 }
 
 /**
- * What is told of a text that begins as a certificate does, and is none.
+ * Which line of a text is at fault that spells no certificate.
  * @param {unknown} failure
+ * @param {Uint8Array} bytes
  */
-export function lineTold(failure) {
-  const isText = failure instanceof Failure && failure.status === TEXT;
-  return isText ? ". Which line is at fault says misere explain FILE." : "";
+export function lineTold(failure, bytes) {
+  if (!(failure instanceof Failure) || failure.status !== TEXT) return "";
+  const fault = faultOfText(lettersOf(bytes));
+  return fault ? `. As this page reads it: ${fault}.` : ". misere explain FILE may say which line is at fault.";
 }
 
 /**

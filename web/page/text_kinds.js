@@ -1,6 +1,7 @@
 // What a text is that is no certificate, and which command is for it.
 
 import {isCode} from "./codes.js";
+import {lettersOf} from "./letters.js";
 
 /** So many bytes are looked at. */
 const LOOKED_AT = 4096;
@@ -31,7 +32,7 @@ const KINDS = [
  * @param {Uint8Array} bytes
  */
 export function kindOfText(bytes) {
-  const begin = String.fromCharCode(...bytes.subarray(0, LOOKED_AT));
+  const begin = lettersOf(bytes.subarray(0, LOOKED_AT));
   if (isCode(begin.trim())) return "This is the code of a game: Find looks for its quotient.";
   const [, told = ""] = KINDS.find(([pattern]) => pattern.test(begin)) ?? [];
   return told;

@@ -7,7 +7,6 @@ import {readFileSync} from "node:fs";
 import path from "node:path";
 import process from "node:process";
 import test from "node:test";
-import {gzipSync} from "node:zlib";
 
 import {Atlas} from "../page/atlas.js";
 import {chosenOf, isRead, rowsOf, unread, wordOf} from "../page/atlas/choosing.js";
@@ -24,9 +23,8 @@ import {readingOf} from "../page/play/reading.js";
 import {outcomeByPlays} from "../page/plays.js";
 import {heapsOfText, listOf} from "../page/positions.js";
 import {Failure} from "../page/prover.js";
-import {lineTold, reasonOf, told, toldOfCertificate} from "../page/refusals.js";
+import {reasonOf, told, toldOfCertificate} from "../page/refusals.js";
 import {TERMS} from "../page/terms.js";
-import {kindOfText} from "../page/text_kinds.js";
 
 import {atlas, fileOf, infinite, parts, printed, refusedInfinite, root, sample, samples} from "./setup.js";
 
@@ -288,30 +286,6 @@ test("a long run of equal heaps is counted", () => {
   assert.match(told(failure), /^no 7 Outcome at \[9·2\]: /);
 });
 
-/** @type {[string, RegExp][]} */
-const KINDS = [
-  ["", /^There is nothing/],
-  ["table 1\ncode 0.33\n", /misere certify FILE/],
-  ["{\"version\":1,\"entries\":[]}", /misere catalogue FILE/],
-  ["[1]", /JSON/],
-  ["Q(0.33) = < a,b | a^2=1 >\n", /misere describe/],
-  ["yes 0.33 order 6 start 1 period 3\n", /an answer of the program/],
-  ["open 1 0.33.mqc 100\n", /misere desk FILE/],
-  ["0.77\n", /Find looks/],
-  ["mqc 1\r\ncode 0.33\r\n", /CR and LF/],
-  ["mqi 1\r\ncode 0.354\r\n", /CR and LF/],
-];
-
-test("a text of another kind is told what it is", () => {
-  const encoder = new TextEncoder();
-  for (const [text, wanted] of KINDS) assert.match(kindOfText(encoder.encode(text)), wanted, text);
-  assert.match(kindOfText(gzipSync("mqc 1\n")), /unpack it/);
-  assert.match(kindOfText(Uint8Array.of(0xff, 0xfe, 0x6d, 0)), /UTF-16/);
-  assert.match(kindOfText(encoder.encode("\ufeffmqc 1\n")), /byte order mark/);
-  const certificates = [...samples.filter(({name}) => !name.includes("/refused/")), ...infinite];
-  for (const {name, bytes} of certificates) assert.equal(kindOfText(bytes), "", name);
-});
-
 test("a field of numbers that says none is named", () => {
   for (const read of ["", " ", "8", "6-20", "6–", "-9", " 6 - 20 "]) assert.ok(isRead(read), read);
   for (const none of ["6-x", "abc", "-", "6-7-8", "1.5"]) assert.deepEqual(unread(chosenOf(`order=${none}`)), [none]);
@@ -370,12 +344,6 @@ test("a certificate that fails at a position is told with who wins that", () => 
       /^no 7 Outcome at \[2, 3\]: .* fails at this position\. Its true outcome is N, won by the player to move, /);
   assert.match(long, /^no 7 Outcome at \[1000000000000000000\]: .* This page doesn’t tell its true outcome/);
   assert.match(other, /^no 2 Law: [^.]*$/);
-});
-
-test("of a text that begins as a certificate it is told which command names the line", () => {
-  assert.match(lineTold(new Failure("refused", "1 Text", 1)), /misere explain FILE\.$/);
-  for (const other of [new Failure("refused", "2 Law", 2), new Failure("failed", "it ended"), new Error("x")])
-    assert.equal(lineTold(other), "");
 });
 
 test("the reason of a search is told in words", () => {

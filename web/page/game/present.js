@@ -57,7 +57,7 @@ export async function present(page, root, bytes, isGame = false) {
   } catch (failure) {
     verdict.classList.add(isNo(failure) ? "no" : "none");
     const codeOf = () => fieldsOf(new TextDecoder().decode(bytes)).code;
-    fill(verdict, toldOfCertificate(failure, codeOf), !kind && lineTold(failure));
+    fill(verdict, toldOfCertificate(failure, codeOf), !kind && lineTold(failure, bytes));
   }
 }
 
