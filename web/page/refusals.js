@@ -93,7 +93,7 @@ function messageOf({message, heaps}) {
 export function lineTold(failure, bytes) {
   if (!(failure instanceof Failure) || failure.status !== TEXT) return "";
   const fault = faultOfText(lettersOf(bytes));
-  return fault ? `. As this page reads it: ${fault}.` : ". misere explain FILE may say which line is at fault.";
+  return fault ? `. As this page reads it: ${fault}.` : ". This page finds no line at fault; misere explain FILE may.";
 }
 
 /**

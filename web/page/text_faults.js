@@ -1,58 +1,23 @@
-// Why a text that begins as a certificate of a finite quotient is none, and in which line. (The page's own reading: the
-// module says no more than that the bytes spell no certificate.)
+// Why a text that begins as a certificate is none, and in which line. (The page's own reading: the module says no more
+// than that the bytes spell no certificate.)
 
-import {MOST, MOST_ELEMENTS, MOST_PART} from "../calls.js";
+import {MOST} from "../calls.js";
 
 import {formatOf} from "./certificate_text.js";
-import {isCode} from "./codes.js";
+import {formatNamed, isNumber} from "./text_lines.js";
 
-/** The names of the first lines, in their order. */
-const HEAD = ["mqc", "code", "order", "start", "period", "phi", "portion", "words"];
-/** The most heaps that the line `phi` has. */
-const MOST_ENTRIES = 4096;
-
-/** @type {[RegExp, (found: string) => string][]} What is amiss with the letters of a line. */
-const LETTERS = [
-  [/\r/, () => "a carriage return"],
-  [/\t/, () => "a tab"],
-  [/[^a-z0-9 .:]/, (found) => `the byte ${found.charCodeAt(0)}, which no text has`],
-  [/^$/, () => "empty"],
-  [/^ | $| {2}/, () => "a space at its beginning or end, or two together"],
-];
+/** @typedef {import("./text_lines.js").Format} Format */
+/** @typedef {import("./text_lines.js").Wanted} Wanted */
 
 /**
- * @typedef {object} Said the numbers of the lines before
+ * @typedef {object} Reading what is read of a text so far
+ * @property {Format} format
+ * @property {import("./text_lines.js").Numbers} numbers
  * @property {string} code
- * @property {number} mqc
- * @property {number} order
- * @property {number} start
- * @property {number} period
- * @property {number} rows how many there were
- * @property {boolean} isApart whether the line `apart` was there
- * @property {boolean} isOver whether the last line was there
- *
- * @typedef {object} Wanted what a line has behind its name
- * @property {number} [count] how many words
- * @property {number} [least] the range of each
- * @property {number} [below]
- * @property {(word: string) => boolean} [isRight] in place of a range
+ * @property {number} step which of the format's steps the last line was
+ * @property {number} count how many lines it had
+ * @property {number} rows how many rows there have to be
  */
-
-/** @type {Record<string, (said: Said) => Wanted>} */
-const LINES = {
-  mqc: () => ({count: 1, least: 1, below: 4}),
-  code: () => ({count: 1, isRight: isCode}),
-  order: () => ({count: 1, least: 2, below: MOST_ELEMENTS + 1}),
-  start: () => ({count: 1, least: 1, below: MOST_ENTRIES + 1}),
-  period: ({start}) =>
-      ({count: 1, least: start > 1 && start <= MOST_PART + 1 ? 0 : 1, below: MOST_ENTRIES + 2 - start}),
-  phi: ({order, start, period}) => ({count: start + period - 1, below: order}),
-  portion: ({order}) => ({below: order}),
-  words: (said) => ({count: said.order - 1, isRight: (word) => isKey(word, said)}),
-  row: ({order}) => ({count: order, below: order}),
-  apart: ({order}) => ({count: (order * (order - 1)) / 2, below: order}),
-  end: () => ({count: 0}),
-};
 
 /**
  * The first fault of a text, such as `line 3: words after its name: 2, not 1`; the empty text where none is found.
@@ -63,78 +28,91 @@ export function faultOfText(text) {
   if (!text) return "no byte";
   const lines = text.split("\n"), rest = lines.pop();
   if (rest) lines.push(rest);
-  /** @type {Said} */
-  const said = {code: "", mqc: 0, order: 0, start: 0, period: 0, rows: 0, isApart: false, isOver: false};
+  /** @type {Reading} */
+  const reading = {format: formatNamed(text), numbers: {}, code: "", step: 0, count: 0, rows: 0};
   for (const [at, line] of lines.entries()) {
-    const fault = faultOfLetters(line) || faultOfLine(said, at, line.split(" "));
+    const fault = faultOfLetters(line, reading.format.foreign) || faultOfLine(reading, line.split(" "));
     if (fault) return `line ${at + 1}: ${fault}`;
   }
   if (rest) return "the last line has no end";
-  return said.isOver ? faultOfFormat(said) : "the last line isn't \"end\"";
-}
-
-/** @param {Said} said */
-function faultOfFormat(said) {
-  const format = formatOf(said.code, said);
-  return said.mqc === format ? "" : `line 1: mqc ${said.mqc}, and by its numbers it is mqc ${format}`;
-}
-
-/** @param {string} line */
-function faultOfLetters(line) {
-  for (const [pattern, told] of LETTERS) {
-    const [found] = line.match(pattern) ?? [];
-    if (found !== undefined) return told(found);
-  }
-  return "";
+  return namesNext(reading).length ? "the last line isn't \"end\"" : faultOfFormat(reading);
 }
 
 /**
- * @param {Said} said
- * @param {number} at
- * @param {string[]} words the name of the line, and what is behind it
+ * @param {string} line
+ * @param {RegExp} foreign
  */
-function faultOfLine(said, at, [name, ...words]) {
-  if (said.isOver) return "it comes after the line \"end\"";
-  const names = at < HEAD.length ? [HEAD[at]] : namesBehind(said);
+function faultOfLetters(line, foreign) {
+  if (line.includes("\r")) return "a carriage return";
+  if (line.includes("\t")) return "a tab";
+  const [found] = line.match(foreign) ?? [];
+  if (found) return `the byte ${found.charCodeAt(0)}, which no text has`;
+  if (!line) return "empty";
+  return /^ | $| {2}/.test(line) ? "a space at its beginning or end, or two together" : "";
+}
+
+/**
+ * The fault of the next line, which is read.
+ * @param {Reading} reading
+ * @param {string[]} line its name, and the words behind that
+ */
+function faultOfLine(reading, [name, ...words]) {
+  const names = namesNext(reading);
+  if (!names.length) return "it comes after the line \"end\"";
   if (!names.includes(name)) return `its first word isn't ${names.join(" or ")}`;
-  const fault = faultOfRows(said, name) || faultOfWords(LINES[name](said), words);
+  const {format: {steps, lines}, numbers, rows} = reading;
+  const before = steps[reading.step][0] === "row" ? reading.count : 0;
+  const isBehindRows = name !== "row" && names.includes("row");
+  if (isBehindRows && before !== rows) return `rows before it: ${before}, not ${rows}`;
+  const fault = faultOfWords(lines[name](numbers), words);
   if (fault) return fault;
   if (name === "portion" && !isRising(words)) return "its numbers don't rise";
-  if (name === "code") said.code = words[0];
-  if (name === "mqc" || name === "order" || name === "start" || name === "period") said[name] = Number(words[0]);
-  said.rows += Number(name === "row");
-  said.isApart ||= name === "apart";
-  said.isOver = name === "end";
+  take(reading, name, words);
   return "";
 }
 
 /**
- * Which names a line behind the first ones may have. (The third format has no line `apart`.)
- * @param {Said} said
+ * The names that the next line may have.
+ * @param {Reading} reading
  */
-function namesBehind({mqc, isApart}) {
-  if (mqc === 3) return ["row", "end"];
-  return isApart ? ["end"] : ["row", "apart"];
+function namesNext({format: {steps}, step, count}) {
+  const names = [];
+  for (const [at, [name, least, most]] of steps.entries()) {
+    const had = at === step ? count : 0;
+    if (at >= step && had < most) names.push(name);
+    if (at >= step && had < least) break;
+  }
+  return names;
 }
 
 /**
- * Whether as many rows stand before the line `apart` as there are elements.
- * @param {Said} said
+ * @param {Reading} reading
  * @param {string} name
+ * @param {string[]} words
  */
-function faultOfRows({order, rows}, name) {
-  return name !== "apart" || rows === order ? "" : `rows before it: ${rows}, not ${order}`;
+function take(reading, name, words) {
+  const {format, numbers} = reading, [word] = words;
+  const step = format.steps.findIndex(([it]) => it === name);
+  reading.count = step === reading.step ? reading.count + 1 : 1;
+  reading.step = step;
+  if (name === "code") reading.code = word;
+  if (words.length === 1 && isNumber(word)) numbers[name] = Number(word);
+  if (name !== "words") return;
+  // (the first elements are those whose keys have the element 0)
+  const others = words.findIndex((key) => !key.startsWith("0:"));
+  const firsts = others < 0 ? words.length : others;
+  reading.rows = format.isShort ? firsts : numbers.order;
 }
 
 /**
  * @param {Wanted} wanted
  * @param {string[]} words
  */
-function faultOfWords({count, least = 0, below = Infinity, isRight}, words) {
-  if (words.length !== (count ?? (words.length || 1)))
-    return `words after its name: ${words.length}, not ${count ?? "one or more"}`;
-  for (const word of words) {
-    if (isRight ? isRight(word) : isNumber(word) && Number(word) >= least && Number(word) < below) continue;
+function faultOfWords({count, atLeast = 0, least = 0, below = Infinity, isRight}, words) {
+  const isAmount = count === undefined ? words.length >= atLeast : words.length === count;
+  if (!isAmount) return `words after its name: ${words.length}, not ${count ?? `${atLeast} or more`}`;
+  for (const [at, word] of words.entries()) {
+    if (isRight ? isRight(word, at) : isNumber(word) && Number(word) >= least && Number(word) < below) continue;
     if (isRight) return `“${word}”, which it can't have`;
     if (/^0\d+$/.test(word)) return `${word}, which begins with 0`;
     return isNumber(word) ? `${word}, which isn't ${least} to ${below - 1}` : `“${word}”, which is no number`;
@@ -142,23 +120,16 @@ function faultOfWords({count, least = 0, below = Infinity, isRight}, words) {
   return "";
 }
 
-/** @param {string} word */
-function isNumber(word) {
-  return /^(0|[1-9]\d*)$/.test(word);
-}
-
-/**
- * Whether a word is a key, an element and a heap.
- * @param {string} word
- * @param {Said} said
- */
-function isKey(word, {order, start, period}) {
-  const [element, heap, ...more] = word.split(":");
-  const areNumbers = more.length === 0 && [element, heap].every((it) => isNumber(it ?? ""));
-  return areNumbers && Number(element) < order && Number(heap) >= 1 && Number(heap) < start + period;
-}
-
 /** @param {string[]} words */
 function isRising(words) {
   return words.every((word, at) => at === 0 || Number(words[at - 1]) < Number(word));
+}
+
+/**
+ * Whether the first line names the format that the numbers ask for.
+ * @param {Reading} reading
+ */
+function faultOfFormat({code, numbers: {mqc, order, start, period}}) {
+  const format = mqc && formatOf(code, {order, start, period});
+  return mqc === format ? "" : `line 1: mqc ${mqc}, and by its numbers it is mqc ${format}`;
 }

@@ -9,7 +9,7 @@ import {linksOf} from "../game/links.js";
 import {ruleSection} from "../game/quotient.js";
 import {Oracle} from "../oracle.js";
 import {MOST_HEAPS_PLAYED} from "../play/bounds.js";
-import {isNo, told, toldOfCertificate} from "../refusals.js";
+import {isNo, lineTold, told, toldOfCertificate} from "../refusals.js";
 import {explained} from "../terms.js";
 
 import {familyPicture, memberOf, writtenOf} from "./family.js";
@@ -32,7 +32,8 @@ const NOT_CHECKED =
  */
 export async function presentInfinite(page, root, bytes, isGame = false) {
   const verdict = make("p", {class: "verdict", id: "verdict", role: "status"}, "Checking …");
-  fill(root, kindNote(bytes), verdict);
+  const kind = kindNote(bytes);
+  fill(root, kind, verdict);
   try {
     const oracle = new Oracle(page.prover, bytes);
     if (!(await oracle.isAble())) return showUnchecked(root, verdict, bytes);
@@ -44,7 +45,8 @@ export async function presentInfinite(page, root, bytes, isGame = false) {
     root.append(...sectionsOf(page, oracle, certificate, isGame));
   } catch (failure) {
     verdict.classList.add(isNo(failure) ? "no" : "none");
-    fill(verdict, toldOfCertificate(failure, () => infiniteOf(new TextDecoder().decode(bytes)).code));
+    const codeOf = () => infiniteOf(new TextDecoder().decode(bytes)).code;
+    fill(verdict, toldOfCertificate(failure, codeOf), !kind && lineTold(failure, bytes));
   }
 }
 

@@ -1,0 +1,140 @@
+// The lines of certificates: their names in their order, and what stands behind each.
+
+import {MOST_ELEMENTS, MOST_PART} from "../calls.js";
+
+import {isCode} from "./codes.js";
+
+/** The most heaps that the line `phi` has, and the largest number of a track. */
+const [MOST_ENTRIES, LARGEST_COUNT] = [4096, 1000];
+/** How many numbers a track has before its weights. */
+const NUMBERS_OF_TRACK = 6;
+
+/**
+ * @typedef {Record<string, number>} Numbers those that the lines before say, by the names of these
+ *
+ * @typedef {object} Wanted what a line has behind its name
+ * @property {number} [count] how many words
+ * @property {number} [atLeast] or how many at least
+ * @property {number} [least] the range of each
+ * @property {number} [below]
+ * @property {(word: string, at: number) => boolean} [isRight] in place of a range
+ *
+ * @typedef {[string, number, number]} Step a name, and how many lines have it at least and at most
+ *
+ * @typedef {object} Format
+ * @property {Step[]} steps
+ * @property {RegExp} foreign the bytes that no line has
+ * @property {boolean} isShort whether it has the rows of the first elements alone
+ * @property {Record<string, (numbers: Numbers) => Wanted>} lines
+ */
+
+/** @param {string} word */
+export function isNumber(word) {
+  return /^(0|[1-9]\d*)$/.test(word);
+}
+
+/**
+ * @param {string} word
+ * @param {number} least
+ * @param {number} most
+ */
+function isWithin(word, least, most) {
+  return isNumber(word) && Number(word) >= least && Number(word) <= most;
+}
+
+/**
+ * Whether a word is a key: an element below the order, and a heap.
+ * @param {string} word
+ * @param {number} order
+ * @param {number} heaps
+ */
+function isKey(word, order, heaps) {
+  const [element, heap, ...more] = word.split(":");
+  return more.length === 0 && isWithin(element, 0, order - 1) && isWithin(heap ?? "", 1, heaps);
+}
+
+/**
+ * Whether a word is a weight: a heap, its down and its up.
+ * @param {string} word
+ * @param {number} heaps
+ */
+function isWeight(word, heaps) {
+  const [heap, ...counts] = word.split(":");
+  return isWithin(heap, 1, heaps) && counts.length === 2 && counts.every((it) => isWithin(it, 0, LARGEST_COUNT));
+}
+
+/** @type {Format["lines"]} */
+const SHARED = {
+  code: () => ({count: 1, isRight: isCode}),
+  row: ({order}) => ({count: order, below: order}),
+  end: () => ({count: 0}),
+};
+
+/** @type {Format["lines"]} */
+const FINITE = {
+  ...SHARED,
+  mqc: () => ({count: 1, least: 1, below: 4}),
+  order: () => ({count: 1, least: 2, below: MOST_ELEMENTS + 1}),
+  start: () => ({count: 1, least: 1, below: MOST_ENTRIES + 1}),
+  period: ({start}) =>
+      ({count: 1, least: start > 1 && start <= MOST_PART + 1 ? 0 : 1, below: MOST_ENTRIES + 2 - start}),
+  phi: ({order, start, period}) => ({count: start + period - 1, below: order}),
+  portion: ({order}) => ({atLeast: 1, below: order}),
+  words: ({order, start, period}) => ({count: order - 1, isRight: (word) => isKey(word, order, start + period - 1)}),
+  apart: ({order}) => ({count: (order * (order - 1)) / 2, below: order}),
+};
+
+/** @type {Format["lines"]} */
+const INFINITE = {
+  ...SHARED,
+  mqi: () => ({count: 1, least: 1, below: 2}),
+  heaps: () => ({count: 1, least: 1, below: MOST_ENTRIES + 1}),
+  order: () => ({count: 1, least: 1, below: MOST_ELEMENTS + 1}),
+  phi: ({order, heaps}) => ({count: heaps, isRight: (word) => word === "-" || isWithin(word, 0, order - 1)}),
+  track: ({heaps}) => ({
+    atLeast: NUMBERS_OF_TRACK,
+    isRight: (word, at) => (at < NUMBERS_OF_TRACK ? isWithin(word, 0, LARGEST_COUNT) : isWeight(word, heaps))
+  }),
+  words: ({order, heaps}) => ({count: order - 1, isRight: (word) => isKey(word, order, heaps)}),
+  region: ({order}) =>
+      ({count: 2, isRight: (word, at) => (at ? /^[0-9a-f]+$/.test(word) : isWithin(word, 0, order - 1))}),
+  base: ({heaps}) => ({atLeast: 0, least: 1, below: heaps + 1}),
+  up: ({heaps}) => ({atLeast: 0, least: 1, below: heaps + 1}),
+  down: ({heaps}) => ({atLeast: 0, least: 1, below: heaps + 1}),
+};
+
+/**
+ * @param {string} names
+ * @returns {Step[]}
+ */
+function once(names) {
+  return names.split(" ").map((name) => [name, 1, 1]);
+}
+
+/** @type {Step} */
+const ROWS = ["row", 0, Infinity];
+const HEAD = once("mqc code order start period phi portion words");
+
+/** @type {Record<"whole" | "third" | "infinite", Format>} */
+const FORMATS = {
+  whole: {steps: [...HEAD, ROWS, ...once("apart end")], foreign: /[^a-z0-9 .:]/, isShort: false, lines: FINITE},
+  third: {steps: [...HEAD, ROWS, ...once("end")], foreign: /[^a-z0-9 .:]/, isShort: true, lines: FINITE},
+  infinite: {
+    steps: [
+      ...once("mqi code heaps order phi"), ["track", 0, 8], ...once("words"), ROWS, ["region", 0, Infinity],
+      ...once("base up down end")
+    ],
+    foreign: /[^a-z0-9 .:-]/,
+    isShort: true,
+    lines: INFINITE
+  },
+};
+
+/**
+ * The format that the beginning of a text names.
+ * @param {string} text
+ */
+export function formatNamed(text) {
+  if (text.startsWith("mqi")) return FORMATS.infinite;
+  return text.startsWith("mqc 3\n") ? FORMATS.third : FORMATS.whole;
+}
