@@ -59,7 +59,10 @@ int main(int argc, char **argv) {
     char line[2048];
     uint64_t heaps[MOST_HEAPS];
     uint32_t status;
-    if (argc != 2 || misere_version() != MISERE_VERSION) return 2;
+    if (argc != 2 || misere_version() != MISERE_VERSION) {
+        fprintf(stderr, "usage: %s CERTIFICATE < POSITIONS, with libmisere of version %d\n", argv[0], MISERE_VERSION);
+        return 2;
+    }
     if ((status = open_file(argv[1]))) {
         printf("no %" PRIu32 "\n", status);
         return 1;

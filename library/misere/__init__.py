@@ -8,13 +8,15 @@
     q.winning_move([2, 10**12])            # Move(heap=2, left=()): take the heap 2 whole; or None
     q.table[2][3], q.phi(10**18), q.portion
     print(q.describe())                    # generators and relations, as the literature prints them
+    q.tame, q.isomorphic(misere.solve("0.3"))  # 2, since it is T_2, one of Nim's; False
     misere.Catalogue()["Kayles"]           # that of the atlas, by its code or its name
     misere.certify("0.1", [[0, 1], [1, 0]], heaps=[1, 0], portion=[1], period=1)  # one's own, in any numbering
     misere.check_infinite(pathlib.Path("0.354_heaps_5.mqi")).outcome([2, 4] + 7 * [5])  # 'P': no finite one says so
 
 What outcome, value, answer and winning_move give is proved of every position, of any number of heaps of 1 to 10^18 (of
 a partial certificate: of its heaps), and so is what outcomes, values and answers give of many. describe's text is
-proved too. table, phi and portion are read off the certificate's text, which a yes makes the misère quotient.
+proved too. table, phi and portion are read off the certificate's text, which a yes makes the misère quotient; tame and
+isomorphic are computed of these by the module, and tested.
 
 The library checks the certificate once, and keeps what it certifies as long as there is the quotient, or until it is
 closed: q.close(), or `with misere.check(..) as q:`.
@@ -30,7 +32,7 @@ child of a fork may go on asking, if the process had one thread alone.
 from ._answers import Answer, Move, Outcome
 from ._asked import Given
 from ._bounds import LIMIT
-from ._catalogue import NAMES, Catalogue, InfiniteCatalogue
+from ._catalogue import Catalogue, InfiniteCatalogue
 from ._faults import (
     Absent,
     Beyond,
@@ -48,6 +50,7 @@ from ._faults import (
 from ._finder import certify, check, check_infinite, solve, solve_furthest, solve_part
 from ._infinite import InfiniteOutput, InfiniteQuotient
 from ._library import version
+from ._names import NAMES
 from ._quotient import Output, Quotient
 from ._version import VERSION as __version__
 

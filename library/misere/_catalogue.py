@@ -6,49 +6,47 @@ import json
 import os
 import pathlib
 from collections.abc import Iterable, Iterator, Mapping
-from typing import Any, Final, TypeVar, Union
+from typing import Any, TypeVar, Union
 
 from . import _certificate
 from ._asked import Asked
 from ._bounds import LIMIT
 from ._faults import TEXT, Absent, Refused
 from ._infinite import InfiniteQuotient
+from ._names import code_of
 from ._quotient import Quotient
 
-#: The codes of games by their names in Winning Ways.
-NAMES: Final = {
-    "Kayles": "0.77",
-    "Dawson's Kayles": "0.07",
-    "Dawson's Chess": "0.137",
-    "Guiles": "0.15",
-    "Officers": "0.6",
-}
 ATLAS = ("octal.json", "hexadecimal.json", "parts.json")
 INFINITE = "infinite"
 # A code or a name; or a code with the last heap of a partial certificate, which is 0 of a full one
 Key = Union[str, "tuple[str, int]"]
 Texts = dict["tuple[str, int]", str]
+Kinds = dict[str, int]
 Kept = TypeVar("Kept", bound=Asked)
 
 
 class _Kept(Mapping[Key, Kept]):
     """Certificates by their codes and last heaps, each of which is checked when it is asked for."""
 
-    def __init__(self, texts: Texts, limit: int) -> None:
-        self._texts, self._limit = texts, limit
-        self._kinds: dict[str, int] = {}
-        for code, heaps in texts:
-            self._kinds[code] = _further(heaps, self._kinds.get(code))
+    def __init__(self, texts: Texts, kinds: Kinds, limit: int) -> None:
+        """Of texts, and of the last heap of that which a code alone means."""
+        self._texts, self._kinds, self._limit = texts, kinds, limit
+        self._furthest = _furthest_of(texts)
 
     def certificate(self, key: Key) -> str:
         """The text of a certificate, which nobody has checked yet."""
         code, heaps = (key, None) if isinstance(key, str) else key
-        code = NAMES.get(code, code)
+        code = code_of(code)
         if heaps is None:
             heaps = self._kinds.get(code, 0)
         if (code, heaps) not in self._texts:
             raise Absent(0, f"the catalogue has no entry of {key!r}")
         return self._texts[code, heaps]
+
+    def furthest(self, code: str) -> Kept:
+        """The quotient of a code or a name that speaks of the most heaps: the full one if there is one."""
+        plain = code_of(code)
+        return self[plain, self._furthest[plain]] if plain in self._furthest else self[code]
 
     def __iter__(self) -> Iterator[str]:
         """The codes, each once."""
@@ -72,15 +70,20 @@ class Catalogue(_Kept[Quotient]):
     """The quotients of a catalogue file, such as `misere catalogue FILE --add` writes, or without a path those of the
     atlas. A certificate is checked when its quotient is asked for, and nothing is believed of the file.
 
-    catalogue["0.77"] is the quotient of a code, the full one where there is one, else the partial one of the most
-    heaps; catalogue["Kayles"] that of a name; catalogue["0.07", 24] that of the heaps to 24. What isn't there raises
-    Absent, a KeyError."""
+    catalogue["0.77"] is the quotient of a code, the full one where there is one, else the partial one of the most heaps;
+    catalogue["Kayles"] that of a name; catalogue["0.07", 24] that of the heaps to 24. Of the atlas a code alone means the
+    entry of octal.json or hexadecimal.json, which the page for browsers shows, and catalogue.furthest("0.07") is the
+    largest part that the atlas has. What isn't there raises Absent, a KeyError."""
 
     def __init__(self, path: str | os.PathLike[str] | None = None, limit: int = LIMIT) -> None:
         texts: Texts = {}
+        kinds: Kinds = {}
         for file in [pathlib.Path(path)] if path is not None else [_atlas() / name for name in ATLAS]:
-            texts.update(_entries_of(file))
-        super().__init__(texts, limit)
+            entries = _entries_of(file)
+            texts.update(entries)
+            for code, heaps in _furthest_of(entries).items():
+                kinds.setdefault(code, heaps)
+        super().__init__(texts, kinds, limit)
 
     def __getitem__(self, key: Key) -> Quotient:
         return Quotient(self.certificate(key), self._limit)
@@ -89,12 +92,17 @@ class Catalogue(_Kept[Quotient]):
 class InfiniteCatalogue(_Kept[InfiniteQuotient]):
     """The infinite quotients of a folder of certificates, NAME.mqi each, or without a path those of the atlas.
 
-    catalogue["0.07"] or catalogue["Dawson's Kayles"] is that of the most heaps, and catalogue["0.07", 34] that of the
-    heaps to 34: of several the one that leaves out the fewest. Each is checked when it is asked for."""
+    catalogue["0.07"] or catalogue["Dawson's Kayles"] is that of the fewest heaps, catalogue.furthest("0.07") that of the
+    most, and catalogue["0.07", 34] that of the heaps to 34: of several the one that leaves out the fewest. Each is checked
+    when it is asked for: those of the most heaps take seconds, all of them the check's."""
 
     def __init__(self, path: str | os.PathLike[str] | None = None, limit: int = LIMIT) -> None:
         folder = pathlib.Path(path) if path is not None else _atlas() / INFINITE
-        super().__init__(_infinite_of(sorted(folder.glob("*.mqi"))), limit)
+        texts = _infinite_of(sorted(folder.glob("*.mqi")))
+        kinds: Kinds = {}
+        for code, heaps in sorted(texts):
+            kinds.setdefault(code, heaps)
+        super().__init__(texts, kinds, limit)
 
     def __getitem__(self, key: Key) -> InfiniteQuotient:
         return InfiniteQuotient(self.certificate(key), self._limit)
@@ -115,9 +123,13 @@ def _infinite_of(files: Iterable[pathlib.Path]) -> Texts:
     return {entry: text for entry, (_, text) in texts.items()}
 
 
-def _further(heaps: int, known: int | None) -> int:
-    """Which of two kinds of a code is told: the full one, else that of the most heaps."""
-    return heaps if known is None else 0 if 0 in (heaps, known) else max(heaps, known)
+def _furthest_of(keys: Iterable[tuple[str, int]]) -> Kinds:
+    """Of each code the kind that speaks of the most heaps: the full one, else that of the largest last heap."""
+    furthest: Kinds = {}
+    for code, heaps in keys:
+        known = furthest.setdefault(code, heaps)
+        furthest[code] = 0 if 0 in (heaps, known) else max(heaps, known)
+    return furthest
 
 
 def _entries_of(file: pathlib.Path) -> dict[tuple[str, int], str]:

@@ -24,6 +24,7 @@ from ._faults import GAVE_UP, NOT_A_CODE, NOT_IN_RANGE, MisereError, NotACode, N
 from ._given import number_of
 from ._infinite import InfiniteQuotient
 from ._library import library, told_by
+from ._names import NAMES, code_of
 from ._own import own_certificate
 from ._quotient import Quotient
 
@@ -48,16 +49,16 @@ def certify(
     table: Sequence[Sequence[int]],
     heaps: Iterable[int],
     portion: Iterable[int],
-    period: int = 0,
+    period: int,
     limit: int = LIMIT,
 ) -> Quotient:
     """The quotient of one's own table, from GAP, say, or a paper; or it raises Refused.
 
     `table` has a row of products for each element, whatever its number is. `heaps` has the elements of the heaps 1, 2, ..,
     of which the last `period` come again and again; or with the period 0 it is a part of the game, with these heaps alone.
-    `portion` has the elements of the P-positions. Elements and heaps are numbered anew as a certificate wants it, which
+    `portion` has the elements of the P-positions. The code may be a name. Elements and heaps are numbered anew as a certificate wants it, which
     is then checked. What is refused of the table itself is said by its own numbers."""
-    return Quotient(own_certificate(code, table, heaps, portion, period, number_of(limit)), limit)
+    return Quotient(own_certificate(code_of(code), table, heaps, portion, period, number_of(limit)), limit)
 
 
 def solve(
@@ -69,7 +70,8 @@ def solve(
     *,
     deep: bool = False,
 ) -> Quotient:
-    """The quotient of the game of a code, such as "0.33"; or it raises NotFound, where the search is given up.
+    """The quotient of the game of a code, such as "0.33", or a name, such as "Kayles"; or it raises NotFound, where the
+    search is given up.
 
     The heaps up to `heaps` are looked at, 2 to 8210, or 24 where none are named; with `deep` all of these, as many as
     the certificate of an octal code can need. The limit is 1 to 1000000, the rounds 1 to 1000, the order 2 to 4096, or
@@ -97,6 +99,7 @@ def solve_furthest(code: str, order: int, limit: int = LIMIT, rounds: int = ROUN
 def _found(code: str, aim: int, limit: int, rounds: int, heaps: int, order: int) -> Quotient:
     if not isinstance(code, str):
         raise WrongType(NOT_A_CODE, f"a code is a text such as '0.33', and not {code!r}")
+    code = code_of(code)
     text = code.encode("utf-8", "surrogatepass")
     bounds = {
         "limit": number_of(limit),
@@ -126,7 +129,7 @@ def _not_found(code: str, aim: int, bounds: dict[str, int], lines: str) -> NotFo
 def _explained(stop: MisereError, code: str, aim: int, bounds: dict[str, int]) -> MisereError:
     """The fault with what it is about."""
     if isinstance(stop, NotACode):
-        return fault(NOT_A_CODE, f"{code!r} is none: {stop.said}")
+        return fault(NOT_A_CODE, f"{code!r} is none: {stop.said}; names are {', '.join(NAMES)}")
     if isinstance(stop, NotInRange):
         return fault(NOT_IN_RANGE, "; ".join(_out_of_range(aim, bounds)))
     return stop

@@ -5,10 +5,11 @@ from __future__ import annotations
 import json
 from typing import Any, Literal, Optional
 
-from . import _certificate
+from . import _certificate, _shown
 from ._asked import Asked, Given, number_of_output
 from ._bounds import LIMIT
 from ._certified import Infinite
+from ._faults import NotOpen
 
 #: What is told of an infinite quotient.
 InfiniteOutput = Literal["description", "latex", "json"]
@@ -54,6 +55,13 @@ class InfiniteQuotient(Asked):
         """The same as a dict of values that JSON has."""
         told: dict[str, Any] = json.loads(self.describe("json"))
         return told
+
+    def _repr_html_(self) -> str | None:
+        """What a notebook shows."""
+        try:
+            return _shown.infinite_html_of(self.describe())
+        except NotOpen:
+            return None
 
     def __repr__(self) -> str:
         without = f" without {' '.join(map(str, self.without))}" if self.without else ""

@@ -13,8 +13,9 @@ from ._answers import array_of
 from ._asked import Asked, Given, number_of_output
 from ._bounds import LARGEST_HEAP, LIMIT
 from ._certified import Finite
-from ._faults import BEYOND, NOT_A_HEAP, NotDescribed, NotOpen, WrongType
+from ._faults import BEYOND, NOT_A_HEAP, NOT_IN_RANGE, NotDescribed, NotOpen, WrongType
 from ._given import is_array, no_heap, refusal_of, rows_of
+from ._monoids import Monoid, isomorphism_of, tame_of
 
 #: What is told of a quotient. The library numbers them in this order.
 Output = Literal["description", "latex", "relations", "json", "singular", "gap"]
@@ -97,6 +98,28 @@ class Quotient(Asked):
         """The element of each position: a list, or an array for an array, as `outcomes`."""
         told = self._asked_of_all(self._certified.values, rows_of(positions), ctypes.c_uint32)
         return array_of(told) if is_array(positions) else list(told)
+
+    @property
+    def tame(self) -> int | None:
+        """The n for which the quotient is T_n, one of Nim's; None of a wild one. `to_dict()["tame"]` has the same, with a
+        proof, and takes longer."""
+        return tame_of(self._monoid)
+
+    def isomorphism(self, other: Quotient) -> tuple[int, ...] | None:
+        """An isomorphism of the bipartite monoids of two quotients: the image of each element, by a bijection that keeps
+        products and the portion; None if there is none. It may be another than `misere compare` prints, which proves
+        its answer. This takes some seconds above 1,000 elements."""
+        if not isinstance(other, Quotient):
+            raise WrongType(NOT_IN_RANGE, f"a quotient is compared with another one, and not with {other!r}")
+        return isomorphism_of(self._monoid, other._monoid)
+
+    def isomorphic(self, other: Quotient) -> bool:
+        """Whether there is one."""
+        return self.isomorphism(other) is not None
+
+    @property
+    def _monoid(self) -> Monoid:
+        return Monoid(self.table, self.portion, frozenset(self._said.phi))
 
     def describe(self, output: Output = "description", basis: bool = False) -> str:
         """The quotient by generators and relations, with its portion, invariants and heaps; or it raises NotDescribed.

@@ -46,6 +46,31 @@ def html_of(told: dict[str, Any]) -> str:
     return "<div>" + "<br>".join(lines) + _table(told["heaps"], _columns(period)) + ending + "</div>"
 
 
+def infinite_html_of(description: str) -> str:
+    """What shows that a quotient is infinite, out of the lines of its description: the positions with their outcomes in a
+    table, the heaps in another one. Products and regions are left out."""
+    lines = [line.split(" ") for line in description.splitlines()]
+    words = {name: rest for name, *rest in lines}
+    code, _, last, *without = words["infinite"]
+    order, _, tracks = words["order"]
+    head = f"<i>Q</i><sub>{last}</sub>(<b>{html.escape(code)}</b>) is infinite: heaps 1 to {last} {' '.join(without)}"
+    shown = [head.rstrip(), f"{order} elements, {tracks} track{'s' * (tracks != '1')}"]
+    shown += [f"{name} {' '.join(words[name])}" for name in ("base", "up", "down")]
+    shown += [" ".join(line) for line in lines if line[0] == "track"]
+    shown.append("outcomes of base + j·up + k·down")
+    outcomes = {line[0]: line[1:] for line in lines if line[0].startswith("j=")}
+    family = _rows("", [f"k={downs}" for downs in range(len(outcomes["j=0"]))], outcomes)
+    heaps = {line[1]: [line[3], " ".join(line[5:])] for line in lines if line[0] == "heap"}
+    return f"<div>{'<br>'.join(shown)}{family}{_rows('heap', ['element', '(down, up)'], heaps)}</div>"
+
+
+def _rows(corner: str, heads: Iterable[str], rows: dict[str, list[str]]) -> str:
+    """A table with these heads, and a head before each row."""
+    head = "".join(f"<th>{it}</th>" for it in [corner, *heads])
+    lines = ["".join([f"<th>{name}</th>", *(f"<td>{it}</td>" for it in cells)]) for name, cells in rows.items()]
+    return f"<table>{''.join(f'<tr>{it}</tr>' for it in [head, *lines])}</table>"
+
+
 def powers_of(word: str) -> list[tuple[str, int]]:
     """The letters of a word with their exponents; none of the word 1."""
     return [(letter, int(exponent or 1)) for letter, exponent in _POWER.findall(word)]

@@ -8,7 +8,7 @@ import tempfile
 import unittest
 
 import misere
-from tests import quotient, top
+from tests import quotient, raised, top
 
 
 class Catalogues(unittest.TestCase):
@@ -27,10 +27,20 @@ class Catalogues(unittest.TestCase):
                 self.assertEqual(self.atlas[name].code, code)
 
     def test_a_part_has_its_last_heap(self) -> None:
-        part = self.atlas["Dawson's Kayles"]
+        part = self.atlas["0.07", 33]
         self.assertEqual((part, part.last_heap), (quotient("0.07_heaps_33"), 33))
-        self.assertEqual(self.atlas["0.07", 24].last_heap, 24)
         self.assertEqual(self.atlas["0.77", 0], self.atlas["Kayles"])
+
+    def test_a_code_alone_is_the_entry_of_its_file(self) -> None:
+        entries = json.loads((top / "atlas/octal.json").read_text())["entries"]
+        texts = {it["code"]: it["certificate"] for it in entries}
+        self.assertEqual({code: self.atlas.certificate(code) for code in texts}, texts)
+        self.assertEqual(self.atlas["Dawson's Kayles"].last_heap, 24)
+
+    def test_the_furthest_has_the_most_heaps(self) -> None:
+        self.assertEqual(self.atlas.furthest("dawsons kayles"), quotient("0.07_heaps_33"))
+        self.assertEqual(self.atlas.furthest("0.77"), self.atlas["Kayles"])
+        self.assertIsInstance(raised(lambda: self.atlas.furthest("0.70")), misere.Absent)
 
     def test_what_is_there(self) -> None:
         there = ["0.77", "Kayles", ("0.07", 24), ("0.33", 0)]
@@ -58,3 +68,4 @@ class Catalogues(unittest.TestCase):
                 both = misere.Catalogue(file)
                 self.assertEqual(both["0.75"].last_heap, 8 if len(order) == 1 else None)
                 self.assertEqual(both["0.75", 8].last_heap, 8)
+                self.assertEqual(both.furthest("0.75"), both["0.75"])

@@ -208,7 +208,8 @@ class Catalogues(unittest.TestCase):
         for last, name in files.items():
             text = (top / f"atlas/infinite/{name}.mqi").read_text()
             self.assertEqual(self.atlas.certificate(("0.07", last)), text, last)
-        self.assertEqual(self.atlas.certificate("0.07"), self.atlas.certificate(("0.07", 37)))
+        self.assertEqual(self.atlas.certificate("0.07"), self.atlas.certificate(("0.07", 34)))
+        self.assertEqual((self.atlas._furthest["0.07"], self.atlas.furthest("0.354")), (37, Infinite.of))
         self.assertEqual(("0.07", 33) in self.atlas, False)
 
     def test_a_folder_with_another_text_is_none(self) -> None:

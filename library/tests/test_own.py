@@ -58,7 +58,7 @@ class Own(unittest.TestCase):
         ]
         for name, table, heaps, portion, said in rows:
             with self.subTest(name), self.assertRaises(misere.Refused) as refused:
-                misere.certify("0.1", table, heaps, portion)
+                misere.certify("0.1", table, heaps, portion, 0)
             self.assertEqual(str(refused.exception), said)
 
     def test_the_call_says_what_the_program_says(self) -> None:
@@ -71,6 +71,12 @@ class Own(unittest.TestCase):
                 # (at first there is room for a part of the lines)
                 told = told_by(8, library.misere_certify, table.encode(), len(table), misere.LIMIT)
                 self.assertEqual(told, (int(said.split()[1]), said.encode()))
+
+    def test_a_part_is_asked_for_by_its_period(self) -> None:
+        with self.assertRaises(TypeError):
+            misere.certify("0.1", TWO, [1, 0], [1])  # type: ignore[call-arg]
+        self.assertEqual(misere.certify("0.1", TWO, [1, 0], [1], 0).last_heap, 2)
+        self.assertIsNone(misere.certify("0.1", TWO, [1, 0], [1], period=1).last_heap)
 
     def test_what_is_no_table(self) -> None:
         rows: list[tuple[str, list[list[int]], list[int], list[int], int, str]] = [

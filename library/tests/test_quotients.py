@@ -7,7 +7,7 @@ import pickle
 import unittest
 
 import misere
-from tests import quotient, samples, top
+from tests import quotient, raised, samples, top
 
 
 class Quotients(unittest.TestCase):
@@ -50,6 +50,31 @@ class Quotients(unittest.TestCase):
         self.assertEqual(full.winning_move([2, 10**12]), misere.Move(heap=2, left=()))
 
 
+class Monoids(unittest.TestCase):
+    def test_tame_is_what_the_description_says(self) -> None:
+        for file in samples.glob("*.mqc"):
+            with self.subTest(file.name):
+                of = misere.check(file)
+                self.assertEqual(of.tame, of.to_dict()["tame"])
+        self.assertEqual((quotient("0.33").tame, quotient("0.75").tame), (2, None))
+
+    def test_an_isomorphism_keeps_products_and_the_portion(self) -> None:
+        one, other = misere.solve_part("0.07", 20), misere.solve_part("0.4", 21)
+        images = one.isomorphism(other) or ()
+        self.assertEqual(sorted(images), [*range(one.order)])
+        self.assertEqual({images[it] for it in one.portion}, other.portion)
+        for x, row in enumerate(one.table):
+            self.assertEqual([images[it] for it in row], [other.table[images[x]][it] for it in images])
+
+    def test_what_is_isomorphic(self) -> None:
+        rows = [("0.33", "0.33", True), ("0.75", "0.75_heaps_8", True), ("0.33", "0.75", False), ("0.77", "0.b", False)]
+        for one, other, told in rows:
+            with self.subTest((one, other)):
+                self.assertEqual(quotient(one).isomorphic(quotient(other)), told)
+                self.assertEqual(quotient(other).isomorphic(quotient(one)), told)
+        self.assertIsInstance(raised(lambda: quotient("0.33").isomorphic(7)), misere.WrongType)  # type: ignore[arg-type]
+
+
 class Found(unittest.TestCase):
     def test_what_is_found_is_the_sample(self) -> None:
         found = {
@@ -62,6 +87,11 @@ class Found(unittest.TestCase):
         for name, it in found.items():
             with self.subTest(name):
                 self.assertEqual(it, quotient(name))
+
+    def test_a_game_has_its_name(self) -> None:
+        self.assertEqual(misere.solve("Kayles", deep=True), quotient("0.77"))
+        self.assertEqual(misere.solve_part("dawson's kayles", 8).code, "0.07")
+        self.assertIn("names are Kayles", str(raised(lambda: misere.solve("Kayle"))))
 
     def test_a_deep_search_is_that_of_the_program(self) -> None:
         found = misere.solve("0.677", deep=True)

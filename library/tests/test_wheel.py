@@ -35,6 +35,8 @@ class Wheel(unittest.TestCase):
             self.assertEqual(files[f"misere/atlas/{name}"], (top / "atlas" / name).read_bytes())
         licences = {place.rpartition("/")[2]: text for place, text in files.items() if "LICENSE-" in place}
         self.assertEqual(licences, {name: (top / name).read_bytes() for name in ("LICENSE-MIT", "LICENSE-APACHE")})
+        metadata = next(text for place, text in files.items() if place.endswith("/METADATA")).decode()
+        self.assertNotRegex(metadata, r"\]\((?![a-z]+:)")
         record = next(place for place in files if place.endswith("/RECORD"))
         listed = [line.split(",") for line in files[record].decode().splitlines()]
         self.assertEqual([place for place, _, _ in listed], list(files))
