@@ -48,9 +48,16 @@ def words_of(certificate: str) -> dict[str, str]:
     return {name: words for name, words in lines}
 
 
+def is_infinite(certificate: str) -> bool:
+    """Whether a certificate says that it is one of an infinite quotient."""
+    return certificate.startswith("mqi ")
+
+
 def heaps_of(certificate: str) -> int:
     """The last heap of which a certificate speaks, or 0 where it is a full one."""
     words = words_of(certificate)
+    if is_infinite(certificate):
+        return int(words["heaps"])
     return int(words["start"]) - 1 if words["period"] == "0" else 0
 
 

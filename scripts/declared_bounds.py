@@ -120,7 +120,7 @@ def wrong_names() -> Iterator[str]:
     """Names of games that Python and the page have otherwise."""
     page = (root / "web/page/codes.js").read_text()
     named = dict(re.findall(r'\["([0-9a-f.]+)", "([^"]+)"\]', page.partition("GAME_NAMES")[2].partition("]);")[0]))
-    python = (root / "library/misere/_catalogue.py").read_text().partition("NAMES: Final")[2].partition("}")[0]
+    python = (root / "library/misere/_names.py").read_text().partition("NAMES: Final")[2].partition("}")[0]
     other = {code: name for name, code in re.findall(r'"([^"]+)": "([0-9a-f.]+)"', python)}
     if {code: name.replace("’", "'") for code, name in named.items()} != other:
-        yield f"codes.js names the games {named}, and _catalogue.py {other}"
+        yield f"codes.js names the games {named}, and _names.py {other}"

@@ -12,7 +12,7 @@ from dataclasses import dataclass, field
 from typing import Any
 
 from atlas_page import CATALOGUES, Entry, entries_of, groups_of, row
-from certificate_lines import heaps_of, place_of, words_of
+from certificate_lines import heaps_of, is_infinite, place_of, words_of
 from game_kinds import renamed
 from runs import Runs
 from script import load, root
@@ -32,10 +32,6 @@ def shape_of(code: str) -> str:
 def is_short(code: str) -> bool:
     """Whether the atlas has an entry of the code."""
     return shape_of(code) in IN_ATLAS
-
-
-def is_infinite(text: str) -> bool:
-    return text.startswith("mqi ")
 
 
 def left_out(text: str) -> list[int]:
@@ -87,7 +83,7 @@ class Kind:
     def last(self) -> int:
         """The last heap of a part, or of an infinite one."""
         assert self.text
-        return int(words_of(self.text)["heaps"]) if is_infinite(self.text) else heaps_of(self.text)
+        return heaps_of(self.text)
 
     def cells(self) -> list[str]:
         """Its line in the table."""
