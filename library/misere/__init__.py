@@ -47,7 +47,7 @@ from ._faults import (
     Refused,
     WrongType,
 )
-from ._finder import certify, check, check_infinite, solve, solve_furthest, solve_part
+from ._finder import certify, check, check_infinite, series, solve, solve_any, solve_furthest, solve_part
 from ._infinite import InfiniteOutput, InfiniteQuotient
 from ._library import version
 from ._names import NAMES
@@ -83,7 +83,9 @@ __all__ = [
     "certify",
     "check",
     "check_infinite",
+    "series",
     "solve",
+    "solve_any",
     "solve_furthest",
     "solve_part",
     "version",

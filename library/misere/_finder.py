@@ -30,6 +30,8 @@ from ._quotient import Quotient
 
 # Of which heaps a search is to find the quotient
 WHOLE, PART, FURTHEST = 0, 1, 2
+# Why no quotient of heaps without a move is found: there is nothing to tell apart
+ONE_ELEMENT = "one element"
 
 
 def check(certificate: Given, limit: int = LIMIT) -> Quotient:
@@ -94,6 +96,27 @@ def solve_furthest(code: str, order: int, limit: int = LIMIT, rounds: int = ROUN
     """The quotient of the most first heaps of a game of which a search finds one of at most so many elements, 2 to
     4096; or it raises NotFound."""
     return _found(code, FURTHEST, limit, rounds, 0, order)
+
+
+def solve_any(code: str, order: int = MOST_BY_FEW, limit: int = LIMIT, rounds: int = ROUNDS) -> Quotient:
+    """The quotient of the game of a code by a deep search, or if that is given up, what `solve_furthest` finds; or it raises
+    NotFound. So does `misere solve CODE --any`. The order is 2 to 4096."""
+    try:
+        return solve(code, limit, rounds, order=order, deep=True)
+    except NotFound:
+        return solve_furthest(code, order, limit, rounds)
+
+
+def series(code: str, order: int = MOST_BY_FEW, limit: int = LIMIT, rounds: int = ROUNDS) -> Iterator[int]:
+    """How many elements the quotients of the heaps 1 to n have, for n = 1, 2, .., as far as a search finds them: each number
+    is that of a certificate that was checked, or 1 where no move is possible. So does `misere series CODE`."""
+    for last in range(1, MOST_PART + 1):
+        try:
+            yield solve_part(code, last, limit, rounds, order).order
+        except NotFound as stop:
+            if stop.why != ONE_ELEMENT:
+                return
+            yield 1
 
 
 def _found(code: str, aim: int, limit: int, rounds: int, heaps: int, order: int) -> Quotient:

@@ -3,6 +3,7 @@
 from __future__ import annotations
 
 import copy
+import itertools
 import pickle
 import unittest
 
@@ -101,6 +102,22 @@ class Found(unittest.TestCase):
         furthest = misere.solve_furthest("0.07", 24)
         self.assertLessEqual(furthest.order, 24)
         self.assertEqual((furthest.code, furthest.period), ("0.07", 0))
+
+    def test_any_is_the_whole_or_a_part(self) -> None:
+        self.assertEqual(misere.solve_any("0.33"), quotient("0.33"))
+        part = misere.solve_any("0.07", order=24)
+        self.assertEqual((part.last_heap, part.order), (24, 24))
+
+    def test_a_series_is_that_of_the_program(self) -> None:
+        rows = [
+            ("0.33", 64, [2, 6, 6, 6]),
+            ("0.07", 64, [1, 2, 2, 6]),
+            ("0.0001", 64, [1, 1, 1, 2]),
+            ("0.33", 5, [2]),
+        ]
+        for code, order, orders in rows:
+            with self.subTest((code, order)):
+                self.assertEqual([*itertools.islice(misere.series(code, order), 4)], orders)
 
     def test_limits_may_be_integers_of_any_kind(self) -> None:
         class Number:
