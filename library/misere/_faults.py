@@ -55,7 +55,7 @@ _MEANINGS = {
     17: "the quotient is closed",
     23: "the certificate does not speak of all the heaps",
     31: "some option of one of its heaps has a heap of which it does not speak",
-    32: "an element is P at a place where no position with this element is",
+    32: "the region of some element has a place that no position with that element reaches",
     33: "the rule was not seen to hold, and no position was found at which it fails",
     34: "the claim is right, but its three positions do not show that the quotient is infinite",
 }
