@@ -5,3 +5,4 @@ pub mod Said
 pub mod Claims
 pub mod Claimed
 pub mod Laps
+pub mod Heights

@@ -1,13 +1,14 @@
 //! The test of a claim.
 ghost use Rattle.std.specs.Prelude.{◌≡◌, ◌↔◌, ℕ, List, IsTrue, IfOk};
 ghost use Rattle.misere_theory.specs.Games.{IsHeap, IsPosition, Indistinguishable};
-ghost use Rattle.misere_theory.specs.Labels.{PredictsOutcomes, says_by};
+ghost use Rattle.misere_theory.specs.Labels.{PredictsOutcomes, RepresentsBy, says_by};
 ghost use Rattle.misere_theory.specs.Parts.{IsInfinite};
 ghost use Rattle.misere_theory.specs.Quotients.{Claim, Represents};
-ghost use Rattle.dominance.specs.Triples.{claim_by, triple_of};
+ghost use Rattle.dominance.specs.Triples.{IsElement, claim_by, triple_of};
 ghost use Rattle.dominance.specs.Quotient.{ArePredicting, HasRulers};
 ghost use Rattle.dominance_checker.specs.Ranks.{label_by};
 
+use crate::elements::makes_all;
 use crate::making::{kept_of, kinds_of, numbers_of};
 use crate::rank::Rank;
 use crate::rulers::has_rulers;
@@ -62,5 +63,24 @@ pub fn is_accepted<A: Allocator + Copy>(
         → (d : Claim) → Represents IsHeap code.now d → ⊥) }
 {
     triples_are_the_quotient();
+    Ok(is_tested_claim(alloc, code, s, ranks)?)
+}
+
+/// Whether a claim passes the test, and heaps make all elements of the monoid U of triples. A yes means that U
+/// is the misère quotient of the whole game. A claim that is accepted, and of which this isn't said, may have
+/// a smaller quotient. `Err` if memory is lacking.
+pub fn is_represented<A: Allocator + Copy>(
+    alloc: A,
+    code: &Code,
+    s: Shape,
+    ranks: &[Rank],
+) -> Result<bool, Memory>
+    ensures { IfOk result (λ b. IsTrue b
+        → RepresentsBy IsElement IsHeap code.now (claim_by (label_by s ranks.now))) }
+{
+    triples_are_the_quotient();
+    if !makes_all(s, ranks) {
+        return Ok(false);
+    }
     Ok(is_tested_claim(alloc, code, s, ranks)?)
 }

@@ -3,6 +3,7 @@
 
 mod answer;
 mod closing;
+mod elements;
 mod heap;
 mod laws;
 mod making;
@@ -18,7 +19,7 @@ mod side;
 mod state;
 mod testing;
 
-pub use answer::is_accepted;
+pub use answer::{is_accepted, is_represented};
 pub use laws::claims_are_by_ranks;
 pub use rank::Rank;
 pub use saying::is_said_p;

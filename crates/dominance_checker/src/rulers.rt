@@ -8,7 +8,7 @@ use crate::rank::Rank;
 use crate::shape::{Shape, rank_of};
 
 /// Whether the heap is odd and has no weight.
-fn is_turning(s: Shape, ranks: &[Rank], n: u64) -> bool
+pub(crate) fn is_turning(s: Shape, ranks: &[Rank], n: u64) -> bool
     ensures { IsTrue result → IsTurning (label_by s ranks.now) n }
 {
     match rank_of(s, ranks, n) {
@@ -18,7 +18,7 @@ fn is_turning(s: Shape, ranks: &[Rank], n: u64) -> bool
 }
 
 /// Whether the heap has the weight 1 and never rules.
-fn is_waiting(s: Shape, ranks: &[Rank], n: u64) -> bool
+pub(crate) fn is_waiting(s: Shape, ranks: &[Rank], n: u64) -> bool
     ensures { IsTrue result → IsWaiting (label_by s ranks.now) n }
 {
     match rank_of(s, ranks, n) {
@@ -38,7 +38,7 @@ fn has_lead(s: Shape, ranks: &[Rank], n: u64) -> bool
 }
 
 /// A heap that turns the parity, below `end`. What is found is a hint, and so is what the next two find.
-fn turning(s: Shape, ranks: &[Rank], end: u64) -> Option<u64> {
+pub(crate) fn turning(s: Shape, ranks: &[Rank], end: u64) -> Option<u64> {
     for n in 1..end {
         if is_turning(s, ranks, n) {
             return Some(n);
@@ -48,7 +48,7 @@ fn turning(s: Shape, ranks: &[Rank], end: u64) -> Option<u64> {
 }
 
 /// A heap that waits, below `end`.
-fn waiting(s: Shape, ranks: &[Rank], end: u64) -> Option<u64> {
+pub(crate) fn waiting(s: Shape, ranks: &[Rank], end: u64) -> Option<u64> {
     for n in 1..end {
         if is_waiting(s, ranks, n) {
             return Some(n);
