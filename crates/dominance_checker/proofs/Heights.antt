@@ -1,6 +1,6 @@
 -- Heaps of each lead, from those of the first leads.
 -- By induction on the lead, a rise at a time.
-use Rattle.std.proofs.Common.{◌≡◌, ℕ, zero, suc, ◌+◌, ◌-◌, ◌<◌, ◌≤◌, ◌⊎◌, List, subst, inl, inr, arith}
+use Rattle.std.proofs.Common.{◌≡◌, ℕ, zero, suc, ◌+◌, ◌-◌, ◌<◌, ◌≤◌, List, subst, inl, inr, arith}
 use native.Mathlib.Decide.{dec_lt}
 use Rattle.dominance.specs.Quotient.{IsTurning, IsWaiting, HasAllRulers}
 use Rattle.dominance_checker.specs.declared.rank.Rank.{Rank}

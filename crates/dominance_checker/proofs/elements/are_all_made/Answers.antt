@@ -1,5 +1,4 @@
-use Rattle.std.proofs.Common.{rules, arith, ◌≡◌, ◌<◌, ◌+◌, ℕ}
-use Rattle.dominance_checker.specs.Elements.{HasLasting}
+use Rattle.std.proofs.Common.{rules, arith}
 use Rattle.dominance_checker.proofs.Heights.{all_rulers}
 use Rattle.dominance_checker.proofs.elements.are_all_made.Goals as goal
 
