@@ -8,7 +8,7 @@ use Rattle.command_results.specs.Lines.{AreLinesOf}
 use Rattle.compare_command.specs.Compared.{Compares, left_behind}
 use Rattle.describe_command.specs.Described.{Describes, form_of}
 use Rattle.explain_command.specs.Explained.{ExplainsGiven}
-use Rattle.infinite_command.specs.Checks.{ChecksInfinite}
+use Rattle.infinite_command.specs.Checks.{ChecksEither}
 use Rattle.infinite_command.specs.Many.{PlaysInfiniteLines}
 use Rattle.infinite_command.specs.Plays.{PlaysInfinite}
 use Rattle.infinite_command.specs.Shown.{ShowsInfinite}
@@ -61,7 +61,7 @@ Says input before after (Catalogue file task limit) text succeeds =
     KeepsCatalogue limit before after file task text succeeds
 Says input before after (Desk script) text succeeds = ⊥
 Says input before after (Infinite file limit) text succeeds =
-    ChecksInfinite (AreGiven input before file) text succeeds
+    ChecksEither (AreGiven input before file) text succeeds
 Says input before after (ShowInfinite file layout limit) text succeeds =
     ShowsInfinite (AreGiven input before file) layout text succeeds
 Says input before after (PlayInfinite file position limit) text succeeds =

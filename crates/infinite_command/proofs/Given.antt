@@ -1,5 +1,5 @@
 -- The bytes that are read of a certificate decide as all of its bytes do.
-use Rattle.std.proofs.Common.{◌∙◌, ◌≤◌, ◌<◌, ap, sym, subst, ℕ, Bool, false, List, Result, Ok, Err, Vec, arith, length}
+use Rattle.std.proofs.Common.{◌≡◌, ◌↔◌, ◌∙◌, ◌≤◌, ◌<◌, ap, sym, subst, ℕ, Bool, true, false, List, Result, Ok, Err, Vec, arith, length}
 use Rattle.std.proofs.lemmas.List.{length-take, take_all}
 use native.Mathlib.Decide.{dec_lt}
 use Rattle.tracked_claims.specs.Fields.{Fields}
@@ -8,9 +8,9 @@ use Rattle.tracked_text.specs.Spelling.{Spells}
 use Rattle.check_command.specs.Checks.{IsFrontOf}
 use Rattle.infinite_answers.specs.Answers.{IsTrueOf, Why, Text, Law, Order, Outcome, Limit, Memory, Part, Idle, Undecided, Ray}
 use Rattle.infinite_answers.specs.Kept.{Kept}
-use Rattle.infinite_command.specs.Checks.{ChecksInfinite, FindsInfinite, JudgesInfinite, TellsFound}
+use Rattle.infinite_command.specs.Checks.{ChecksEither, FindsInfinite, JudgesInfinite, TellsFound}
 use Rattle.infinite_command.specs.Shown.{ShowsFound, ShowsInfinite}
-use Rattle.infinite_command.specs.Told.{IsRefusalText, Tells}
+use Rattle.infinite_command.specs.Told.{BeginsWhole, IsRefusalText, Tells, TellsEither, TellsWhole}
 use Rattle.infinite_descriptions.specs.Head.{infinite_line}
 use Rattle.requests.specs.declared.plans.Layout.{Layout}
 use Rattle.infinite_command.specs.Told.Tells.{Yes, No}
@@ -42,6 +42,34 @@ tells_longer v bytes text accepted long more (Yes c spells shown is good) =
 tells_longer v bytes text accepted long more (No why holds told bad) =
     No why (true_of_longer v bytes text why long more holds told) told bad
 
+-- long bytes are no text of a whole game
+no_long_whole : (bytes : List ℕ) → 4194304 < length bytes → BeginsWhole bytes → ⊥
+no_long_whole bytes long begins = let short = begins.0 in omega (arith, long, short)
+
+either_longer : (v bytes text : List ℕ) (accepted : Bool) → 4194304 < length v
+    → length v ≤ length bytes → TellsEither v text accepted → TellsEither bytes text accepted
+either_longer v bytes text accepted long more told = record {
+  whole = λ begins. absurd (no_long_whole bytes (omega (arith, long, more)) begins);
+  tracked = λ _. tells_longer v bytes text accepted long more (told.tracked (no_long_whole v long));
+}
+
+-- what is told of the front is told of all
+pub tells_all : (Are : List ℕ → Type 0) (front text : List ℕ) (accepted : Bool) → IsFrontOf Are front
+    → TellsEither front text accepted → ChecksEither Are text accepted
+tells_all Are front text accepted (bytes, are, is) told = elim (dec_lt 4194305 (length bytes)) [
+  | yes long ↦
+      let cut = ap length is ∙ length-take 4194305 bytes in (
+        bytes,
+        are,
+        either_longer front bytes text accepted (grind (arith, cut, long)) (grind (arith, cut, long)) told,
+      )
+  | no short ↦ (
+    bytes,
+    are,
+    subst (λ b. TellsEither b text accepted) (is ∙ take_all 4194305 bytes (omega (arith, short))) told,
+  )
+]
+
 judges_longer : {A : Type 0} (v bytes : List ℕ) (q : Result Kept (Vec ℕ A)) → 4194304 < length v
     → length v ≤ length bytes → JudgesInfinite v q → JudgesInfinite bytes q
 judges_longer v bytes (Ok k) long more (c, spells, kept, shown) = absurd (no_long v c long spells)
@@ -62,18 +90,13 @@ finds_all Are front q (bytes, are, is) judged = elim (dec_lt 4194305 (length byt
   )
 ]
 
--- what is said of what is found is said of the bytes
-pub checks_found : {A : Type 0} (Are : List ℕ → Type 0) (q : Result Kept (Vec ℕ A)) (text : List ℕ)
-    (succeeds : Bool) → FindsInfinite Are q → TellsFound q text succeeds
-    → ChecksInfinite Are text succeeds
-checks_found Are (Ok k) text succeeds (bytes, are, (c, spells, kept, shown)) (line, well) =
-    (bytes, are, Yes c spells shown (line ∙ ap (λ (f : Fields). infinite_line f.code f.heaps) kept.claim) well)
-checks_found Are (Err said) text succeeds (bytes, are, told) (same, ill) = (
-  bytes,
-  are,
-  subst (λ b. Tells bytes text b) (sym ill)
-      (subst (λ t. Tells bytes t false) (sym same) told),
-)
+-- what is said of what is found is told of the bytes
+pub tells_found : {A : Type 0} (bytes : List ℕ) (q : Result Kept (Vec ℕ A)) (text : List ℕ)
+    (succeeds : Bool) → JudgesInfinite bytes q → TellsFound q text succeeds → Tells bytes text succeeds
+tells_found bytes (Ok k) text succeeds (c, spells, kept, shown) (line, well) =
+    Yes c spells shown (line ∙ ap (λ (f : Fields). infinite_line f.code f.heaps) kept.claim) well
+tells_found bytes (Err said) text succeeds told (same, ill) =
+    subst (λ b. Tells bytes text b) (sym ill) (subst (λ t. Tells bytes t false) (sym same) told)
 
 -- what is shown of what is found is shown of the bytes
 pub shows_found : {A : Type 0} (Are : List ℕ → Type 0) (layout : Layout)
@@ -85,3 +108,14 @@ shows_found Are layout (Ok k) text succeeds found (described, well) =
 shows_found Are layout (Err said) text succeeds (bytes, are, told) (same, ill) =
     subst (λ b. ShowsInfinite Are layout text b) (sym ill)
     (bytes, are, subst (λ t. Tells bytes t false) (sym same) told)
+
+never : false ≡ true → ⊥
+never e = cc
+
+-- what is told is told of a certificate with tracks unless the bytes begin as a whole game's
+pub either_tracked : (b : Bool) (bytes text : List ℕ) (accepted : Bool) → (b ≡ true ↔ BeginsWhole bytes)
+    → b ≡ false → Tells bytes text accepted → TellsEither bytes text accepted
+either_tracked b bytes text accepted begins is told = record {
+  whole = λ so. absurd (never (sym is ∙ begins.1 so));
+  tracked = λ _. told;
+}

@@ -6,11 +6,15 @@ use Rattle.tracked_text.specs.Spelling.{Spells}
 use Rattle.infinite_answers.specs.Kept.{Kept, IsKeptOf}
 use Rattle.infinite_answers.specs.Shown.{IsShown}
 use Rattle.infinite_descriptions.specs.Head.{infinite_line}
-use Rattle.infinite_command.specs.Told.{Tells}
+use Rattle.infinite_command.specs.Told.{Tells, TellsEither}
 
 -- the text of a true answer to the bytes that are given, and whether that is a yes
 abbrev pub ChecksInfinite : (List ℕ → Type 0) → List ℕ → Bool → Type 0
 ChecksInfinite Are text accepted = (bytes : List ℕ) × Are bytes × Tells bytes text accepted
+
+-- the same, where the bytes may be those of a whole game
+abbrev pub ChecksEither : (List ℕ → Type 0) → List ℕ → Bool → Type 0
+ChecksEither Are text accepted = (bytes : List ℕ) × Are bytes × TellsEither bytes text accepted
 
 -- the bytes spell a certificate that is right, and k is what is kept of it
 abbrev pub IsShownBy : List ℕ → Kept → Type 0

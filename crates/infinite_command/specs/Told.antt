@@ -1,6 +1,10 @@
--- What is said of a certificate with tracks: the text that is printed, and whether that is a yes. This
--- project's own.
-use Rattle.std.specs.Prelude.{◌≡◌, ℕ, Bool, true, false, List, codes, is_some, map}
+-- What is said of a certificate with tracks, or of a text of a whole game: the text that is printed, and
+-- whether that is a yes. This project's own.
+use Rattle.std.specs.Prelude.{◌≡◌, ◌≤◌, ◌++◌, ℕ, Bool, true, false, List, length, codes, is_some, map}
+use Rattle.octal_code.specs.Text.{code_text}
+use Rattle.certificate_text.specs.declared.TheConstants.{LONGEST_TEXT}
+use Rattle.dominance_text.specs.Said.{DominanceSaid}
+use Rattle.dominance_text.specs.Spelling.{SpellsDominance}
 use Rattle.tracked_text.specs.Said.{Said}
 use Rattle.tracked_text.specs.Spelling.{Spells}
 use Rattle.answers.specs.ByteVerdicts.ByteVerdict.{Outcome as Refuted}
@@ -8,12 +12,17 @@ use Rattle.infinite_answers.specs.Answers.{IsTrueOf, Why, Text, Law, Order, Outc
 use Rattle.infinite_answers.specs.Shown.{IsShown}
 use Rattle.infinite_descriptions.specs.Head.{infinite_line}
 use Rattle.verdict_texts.specs.Lines.{IsTextOf, no_line}
+use Rattle.whole_checker.specs.Solved.{IsSolved, IsRefusedWhole}
 
 -- ---- a yes
 
 -- the line of a certificate that is right
 abbrev pub yes_line : Said → List ℕ
 yes_line c = infinite_line c.code (map is_some c.elements)
+
+-- the line of a whole game that is solved
+abbrev pub whole_line : List ℕ → List ℕ
+whole_line code = codes "infinite " ++ code_text code ++ codes " whole\n"
 
 -- ---- a no
 
@@ -40,3 +49,20 @@ pub data Tells (bytes : List ℕ) : List ℕ → Bool → Type 0 where
       → text ≡ yes_line c → accepted ≡ true → Tells bytes text accepted
   No : {text : List ℕ} {accepted : Bool} (why : Why) → IsTrueOf bytes why
       → IsRefusalText why text → accepted ≡ false → Tells bytes text accepted
+
+-- The bytes are no more than a text has, and begin as those of whole games do.
+abbrev pub BeginsWhole : List ℕ → Type 0
+BeginsWhole bytes =
+    (length bytes ≤ LONGEST_TEXT) × ((rest : List ℕ) × (bytes ≡ codes "mqw " ++ rest))
+
+-- The same of a text of a whole game: it is right, or refused.
+pub data TellsWhole (bytes : List ℕ) : List ℕ → Bool → Type 0 where
+  Solved : {text : List ℕ} {accepted : Bool} (c : DominanceSaid) → SpellsDominance bytes c
+      → IsSolved c → text ≡ whole_line c.code → accepted ≡ true → TellsWhole bytes text accepted
+  Refused : {text : List ℕ} {accepted : Bool} (why : Why) → IsRefusedWhole bytes why
+      → IsRefusalText why text → accepted ≡ false → TellsWhole bytes text accepted
+
+-- What is said is of a whole game if the bytes begin so, and else of a certificate with tracks.
+pub record TellsEither (bytes text : List ℕ) (accepted : Bool) : Type 0 where
+  pub whole : BeginsWhole bytes → TellsWhole bytes text accepted
+  pub tracked : (BeginsWhole bytes → ⊥) → Tells bytes text accepted

@@ -3,11 +3,12 @@ ghost use Rattle.std.specs.Prelude.{◌≡◌, false, true, IfOk, IfErr, is_none
 ghost use Rattle.std.specs.String.{string_bytes};
 ghost use Rattle.check_command.specs.Checks.{AreGiven, IsGivenCause, failed};
 ghost use Rattle.infinite_answers.specs.Refusals.{refused};
-ghost use Rattle.infinite_command.specs.Told.{IsRefusalText};
+ghost use Rattle.infinite_command.specs.Told.{IsRefusalText, TellsEither};
 ghost use Rattle.infinite_descriptions.specs.Head.{infinite_line};
-ghost use Rattle.infinite_command.specs.Checks.{ChecksInfinite, FindsInfinite, JudgesInfinite, TellsFound};
+ghost use Rattle.infinite_command.specs.Checks.{ChecksEither, FindsInfinite, JudgesInfinite, TellsFound};
 
 use crate::lines::refusal_text;
+use crate::whole::{begins_whole, whole_said};
 use allocation::Memory;
 use check_command::given_bytes;
 use command_results::{Said, Stop};
@@ -78,9 +79,21 @@ fn said_of(alloc: Global, found: Result<Infinite, Vec<u8>>) -> Result<Said, Memo
     }
 }
 
+/// What is said of bytes: of a text of a whole game, by its first word, or else of a certificate.
+fn said_of_bytes(alloc: Global, bytes: &[u8], limit: u32) -> Result<Said, Memory>
+    ensures { IfOk result (λ s. TellsEither bytes.now s.text.items s.succeeds) }
+{
+    if begins_whole(bytes) {
+        return whole_said(alloc, bytes);
+    }
+    let found = judged(alloc, bytes, limit)?;
+    let said = said_of(alloc, found)?;
+    Ok(said)
+}
+
 /// Checks the certificate in the file, or on standard input where no file is named: the line of the
-/// infinite quotient that it shows, or the text of a no. Whichever of the two isn't read is left
-/// alone.
+/// infinite quotient that it shows, or the text of a no. A text of a whole game, whose first word is
+/// `mqw`, is checked as one. Whichever of the two isn't read is left alone.
 pub fn infinite<'a, F: Folder, S: Source>(
     alloc: Global,
     file: Option<&'a str>,
@@ -89,7 +102,7 @@ pub fn infinite<'a, F: Folder, S: Source>(
     input: &mut S,
 ) -> Result<Said, Stop<'a>>
     ensures said { let named = option_map (λ f. f.now) file.entry in
-        IfOk result (λ s. ChecksInfinite (AreGiven (S.left input.old) (F.files folder.old) named)
+        IfOk result (λ s. ChecksEither (AreGiven (S.left input.old) (F.files folder.old) named)
         s.text.items s.succeeds) }
     ensures kept { F.files folder.new ≡ F.files folder.old }
     ensures stops { IfErr result (IsGivenCause (option_map (λ f. f.now) file.entry)
@@ -99,8 +112,8 @@ pub fn infinite<'a, F: Folder, S: Source>(
     ensures folder { is_some (option_map (λ f. f.now) file.entry) ≡ false
         → folder.new ≡ folder.old }
 {
-    let found = shown(alloc, file, limit, folder, input)?;
-    match said_of(alloc, found) {
+    let bytes = given_bytes(alloc, file, folder, input)?;
+    match said_of_bytes(alloc, &bytes, limit) {
         Ok(said) => Ok(said),
         Err(Memory) => Err(Stop::Memory),
     }

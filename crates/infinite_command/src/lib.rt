@@ -1,5 +1,5 @@
-//! `infinite`: what is said of a certificate of an infinite quotient, and the answers in positions by
-//! it.
+//! `infinite`: what is said of a certificate of an infinite quotient, or of a text of a whole game, and the
+//! answers in positions by the first.
 #![tactic(auto)]
 
 mod checking;
@@ -7,6 +7,7 @@ mod lines;
 mod many;
 mod playing;
 mod showing;
+mod whole;
 
 pub use checking::{infinite, shown};
 pub use many::play_infinite_lines;

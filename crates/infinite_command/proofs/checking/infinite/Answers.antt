@@ -1,6 +1,10 @@
-use Rattle.infinite_command.proofs.Given.{checks_found}
+use Rattle.std.proofs.Common.{ℕ, List, subst}
+use Rattle.infinite_command.specs.Told.{TellsEither}
+use Rattle.infinite_command.proofs.Given.{tells_all}
 use Rattle.infinite_command.proofs.checking.infinite.Goals as goal
 
 pub returns-in-Ok-clause-said : goal.returns-in-Ok-clause-said
 returns-in-Ok-clause-said g c =
-    checks_found _ c.in_ok-found.found _ _ c.in_ok-found.ensures.found c.in-Ok.ensures
+    tells_all _ c.in_ok-bytes.bytes.items _ _ c.in_ok-bytes.ensures.bytes
+    (subst (λ (b : List ℕ). TellsEither b c.in-Ok.said.text.items c.in-Ok.said.succeeds) c.deref.ensures.value
+    c.in-Ok.ensures)
