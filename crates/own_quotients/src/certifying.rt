@@ -1,7 +1,8 @@
 //! Tables, certified.
-ghost use Rattle.std.specs.Prelude.{◌<◌, ℕ, IfErr, IfOk};
+ghost use Rattle.std.specs.Prelude.{◌<◌, ℕ, IfErr, IfOk, OnOk};
+ghost use Rattle.answers.specs.ByteVerdicts.{refused};
 ghost use Rattle.own_tables.specs.Tables.{IsIdentity, Own};
-ghost use Rattle.own_quotients.specs.Certified.{HasCertified, IsFaultOf, IsNumberingOf};
+ghost use Rattle.own_quotients.specs.Certified.{HasCertified, IsFaultOf, IsNumberingOf, IsRefusedAs, PassesLaws};
 
 use crate::draft::draft;
 use crate::fault::CertifyFault;
@@ -25,6 +26,21 @@ pub struct Numbered {
     pub elements: Vec<u16>,
 }
 
+/// The fault of which the check of a draft tells. What depends on how the draft numbers the table is none of
+/// the table's: then there is no draft.
+fn fault_by(refusal: Refusal) -> CertifyFault
+    ensures { (o : Own) (limit : ℕ) → PassesLaws o → IsRefusedAs o limit (refused refusal)
+        → IsFaultOf o limit result }
+{
+    match refusal {
+        Refusal::Period => CertifyFault::Refused(Refusal::Period),
+        Refusal::Outcome(code, position) => CertifyFault::Refused(Refusal::Outcome(code, position)),
+        Refusal::Limit => CertifyFault::Refused(Refusal::Limit),
+        Refusal::Memory => CertifyFault::Memory,
+        _ => CertifyFault::NoDraft,
+    }
+}
+
 /// Checks a draft that is the table in other numbers.
 fn judged(
     alloc: Global,
@@ -37,6 +53,7 @@ fn judged(
         → IsNumberingOf o identity text.items numbering.numbers.items numbering.elements.items
         → IfOk result (λ n. HasCertified o n.text.items n.certified n.identity n.numbers.items n.elements.items) }
     ensures refused { (o : Own)
+        → PassesLaws o
         → IsNumberingOf o identity text.items numbering.numbers.items numbering.elements.items
         → IfErr result (IsFaultOf o limit) }
 {
@@ -50,8 +67,7 @@ fn judged(
             numbers,
             elements,
         }),
-        Err(Refusal::Memory) => Err(CertifyFault::Memory),
-        Err(refusal) => Err(CertifyFault::Refused(refusal)),
+        Err(refusal) => Err(fault_by(refusal)),
     }
 }
 
@@ -63,7 +79,8 @@ fn compared(
     text: Vec<u8>,
     limit: u32,
 ) -> Result<Numbered, CertifyFault>
-    requires { identity < table.now.order }
+    requires identity_in { identity < table.now.order }
+    requires laws { PassesLaws table.now }
     ensures certified { IfOk result (λ n. HasCertified table.now n.text.items n.certified n.identity n.numbers.items n.elements.items) }
     ensures refused { IfErr result (IsFaultOf table.now limit) }
 {
@@ -78,7 +95,8 @@ fn compared(
 fn tried(alloc: Global, table: &OwnTable, identity: u16) -> Result<(), CertifyFault>
     requires identity_in { identity < table.now.order }
     requires is_identity { IsIdentity table.now identity }
-    ensures { IfErr result (λ fault. (limit : ℕ) → IsFaultOf table.now limit fault) }
+    ensures laws { OnOk result (PassesLaws table.now) }
+    ensures fault { IfErr result (λ fault. (limit : ℕ) → IsFaultOf table.now limit fault) }
 {
     if let Some((x, y)) = not_commuting(table) {
         return Err(CertifyFault::NotCommuting(x, y));
@@ -99,8 +117,9 @@ fn tried(alloc: Global, table: &OwnTable, identity: u16) -> Result<(), CertifyFa
 /// makes, whose closure may keep so many members.
 ///
 /// A certificate is accepted, and the table's elements, products, heaps and portion are those of the
-/// certificate in other numbers. A refusal is true of the table. `NoDraft` says that no certificate
-/// was made though no fault was found: its text would be too long, or the code has too many heaps.
+/// certificate in other numbers. A refusal is true of the table, and is of the period, an outcome or the limit.
+/// `NoDraft` says that no certificate was made though the products passed the laws: its text would be too long,
+/// or the code has too many heaps.
 pub fn certify(alloc: Global, table: &OwnTable, limit: u32) -> Result<Numbered, CertifyFault>
     ensures certified { IfOk result (λ n. HasCertified table.now n.text.items n.certified n.identity n.numbers.items n.elements.items) }
     ensures refused { IfErr result (IsFaultOf table.now limit) }

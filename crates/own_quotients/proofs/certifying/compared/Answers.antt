@@ -12,7 +12,7 @@ returns-in-Some-clause-certified c =
 
 pub returns-in-Some-clause-refused : goal.returns-in-Some-clause-refused
 returns-in-Some-clause-refused c =
-    c.judged.ensures.refused c.args.table.now
+    c.judged.ensures.refused c.args.table.now c.requires.laws
     (subst
     (λ (b : List ℕ). IsNumberingOf c.args.table.now c.args.identity b
     c.in-Some.numbering.numbers.items c.in-Some.numbering.elements.items) c.deref.ensures.value
