@@ -17,7 +17,7 @@ use Rattle.positions.specs.declared.outcome.Outcome.{Outcome}
 use Rattle.player.specs.Answers.{IsRightAnswer}
 use Rattle.player.specs.declared.answering.Answer.{Answer}
 use Rattle.told_answers.specs.Numbers.{outcome_number, IsAnswerOf}
-use Rattle.told_answers.specs.Asked.{AreNoEnds, IsNoPosition, IsOpened, IsUnopened}
+use Rattle.told_answers.specs.Asked.{AreNoEnds, CutInto, IsNoPosition, IsOpened, IsUnopened}
 use Rattle.told_answers.specs.declared.numbers.MisereAnswer.{MisereAnswer}
 use Rattle.infinite_queries.specs.Numbers.{status_of}
 
@@ -69,10 +69,11 @@ abbrev pub IsNoAnswer : Option Kept → List ℕ → ℕ → Type 0
 IsNoAnswer opened heaps status =
     IsUnopened opened status ⊎ IsOpened opened (λ k. IsUnanswered k heaps status)
 
--- Why nothing is told of the positions by this certificate.
+-- Why nothing is told of the positions by this certificate: the ends don't cut the heaps into them, or
+-- they do, and nothing is told of the heaps.
 abbrev pub AreUnanswered : Kept → List ℕ → List ℕ → ℕ → ℕ → Type 0
 AreUnanswered k heaps ends room status =
-    IsUnanswered k heaps status ⊎ AreNoEnds heaps ends room status
+    AreNoEnds heaps ends room status ⊎ (CutInto heaps ends room × IsUnanswered k heaps status)
 
 -- Why nothing is told of the positions by what is opened.
 abbrev pub IsNoAnswerToMany : Option Kept → List ℕ → List ℕ → ℕ → ℕ → Type 0

@@ -21,9 +21,12 @@ IsTextFor number k text = (output : Output) × IsOutput number output × IsDescr
 abbrev pub IsOpenedText : Option Kept → ℕ → List ℕ → Type 0
 IsOpenedText opened number text = IsOpened opened (λ k. IsTextFor number k text)
 
--- why no text of an infinite quotient is told: there is no such output, or memory was refused
+-- why no text of an infinite quotient is told: there is no such output, or there is one, and memory was
+-- refused
 abbrev pub IsUntoldOf : ℕ → ℕ → Type 0
-IsUntoldOf number status = ((status ≡ 15) × ((number ≡ 2) ⊎ (4 ≤ number))) ⊎ (status ≡ 9)
+IsUntoldOf number status =
+    ((status ≡ 15) × ((number ≡ 2) ⊎ (4 ≤ number)))
+    ⊎ ((status ≡ 9) × ((output : Output) × IsOutput number output))
 
 -- Why no text is told: nothing is opened; or something is, and its text isn't told.
 abbrev pub IsOpenedUntold : Option Kept → ℕ → ℕ → Type 0

@@ -2,7 +2,7 @@
 use Rattle.std.specs.Prelude.{◌≡◌, ◌⊎◌, ℕ, List}
 use Rattle.std.specs.declared.option.Option.{Option}
 use Rattle.misere_theory.specs.Certificates.{Certificate}
-use Rattle.told_answers.specs.Asked.{AreNoEnds, IsNoPosition, IsOpened, IsUnopened}
+use Rattle.told_answers.specs.Asked.{AreNoEnds, CutInto, IsNoPosition, IsOpened, IsUnopened}
 use Rattle.misere_library.specs.Queries.{LeavesOut}
 
 -- Why nothing is told of a position by this certificate.
@@ -14,10 +14,11 @@ abbrev pub IsNoAnswer : Option Certificate → List ℕ → ℕ → Type 0
 IsNoAnswer opened heaps status =
     IsUnopened opened status ⊎ IsOpened opened (λ c. IsUnanswered c heaps status)
 
--- Why nothing is told of the positions by this certificate.
+-- Why nothing is told of the positions by this certificate: the ends don't cut the heaps into them, or
+-- they do, and nothing is told of the heaps.
 abbrev pub AreUnanswered : Certificate → List ℕ → List ℕ → ℕ → ℕ → Type 0
 AreUnanswered c heaps ends room status =
-    IsUnanswered c heaps status ⊎ AreNoEnds heaps ends room status
+    AreNoEnds heaps ends room status ⊎ (CutInto heaps ends room × IsUnanswered c heaps status)
 
 -- Why nothing is told of the positions by what is opened.
 abbrev pub IsNoAnswerToMany : Option Certificate → List ℕ → List ℕ → ℕ → ℕ → Type 0

@@ -13,7 +13,7 @@ use Rattle.positions.specs.declared.outcome.Outcome.{Outcome}
 use Rattle.player.specs.Answers.{IsRightAnswer, SpeaksOf}
 use Rattle.player.specs.declared.answering.Answer.{Answer}
 use Rattle.told_answers.specs.Numbers.{outcome_number, IsAnswerOf}
-use Rattle.told_answers.specs.Asked.{AreNoEnds, IsNoPosition}
+use Rattle.told_answers.specs.Asked.{AreNoEnds, CutInto, IsNoPosition}
 use Rattle.told_answers.specs.declared.numbers.MisereAnswer.{MisereAnswer}
 use Rattle.misere_library.specs.Numbers.{status_of}
 
@@ -49,10 +49,11 @@ IsNo bytes limit heaps status =
     IsNoPosition heaps status
     ⊎ (IsNoQuotient bytes limit status ⊎ (IsBeyond bytes limit heaps status ⊎ (status ≡ 9)))
 
--- Why nothing is told of many positions: one of these, or the ends don't cut the heaps into them.
+-- Why nothing is told of many positions: the ends don't cut the heaps into them, or they do, and nothing is
+-- told of the heaps.
 abbrev pub IsNoToMany : List ℕ → ℕ → List ℕ → List ℕ → ℕ → ℕ → Type 0
 IsNoToMany bytes limit heaps ends room status =
-    IsNo bytes limit heaps status ⊎ AreNoEnds heaps ends room status
+    AreNoEnds heaps ends room status ⊎ (CutInto heaps ends room × IsNo bytes limit heaps status)
 
 -- the number of the outcome of the position of these heaps, of which the certificate speaks
 abbrev pub TellsOutcome : List ℕ → ℕ → Certificate → Type 0

@@ -17,7 +17,11 @@ IsUnopened opened status = (status ≡ 17) × (opened ≡ None)
 abbrev pub IsNoPosition : List ℕ → ℕ → Type 0
 IsNoPosition heaps status = (status ≡ 10) × (All IsSize heaps → ⊥)
 
--- The ends don't cut some of the heaps into as many positions as there is room for.
+-- The ends cut the heaps into as many positions as there is room for.
+abbrev pub CutInto : List ℕ → List ℕ → ℕ → Type 0
+CutInto heaps ends room = AreEnds (length heaps) ends × (room ≡ length ends)
+
+-- They don't.
 abbrev pub AreNoEnds : List ℕ → List ℕ → ℕ → ℕ → Type 0
 AreNoEnds heaps ends room status =
     (status ≡ 11) × (AreEnds (length heaps) ends → room ≡ length ends → ⊥)
