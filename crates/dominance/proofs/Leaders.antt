@@ -63,11 +63,6 @@ module _ (label : ℕ → Triple) where
     no_heavier n (m ∷ Y) all =
         (elim all.0 [ inl l ↦ omega arith | inr l ↦ omega arith ], no_heavier n Y all.1)
 
-    -- so beside it the others don't rule
-    pub led_below : (n : ℕ) (Y : List ℕ) → IsPosition IsHeap Y → Leads n Y
-        → (triple_of label Y).lead ≤ (label n).weight - 1
-    led_below n Y p all = below_weight (label n).weight Y p (no_heavier n Y all)
-
     pub led_at_most : (n : ℕ) (Y : List ℕ) → IsPosition IsHeap Y → Leads n Y
         → (triple_of label Y).lead
         ≤ max ((label n).lead - ((triple_of label Y).weight - (label n).weight))

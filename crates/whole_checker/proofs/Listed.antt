@@ -13,9 +13,6 @@ pub record AreRanks (c : DominanceSaid) (i : ℕ) (all : List Rank) : Type 0 whe
   pub count : length all ≡ i + 1
   pub each : (n : ℕ) → n < i + 1 → triple_in (rank_at all n) ≡ listed_triple c n
 
-no_rank : Rank
-no_rank = record { odd = false; weight = 0; lead = 0 }
-
 pub first_rank : (c : DominanceSaid) → AreRanks c 0 (record { odd = false; weight = 0; lead = 0 } ∷ [])
 first_rank c = record {
   count = omega arith;

@@ -9,6 +9,7 @@ use dominance_checker::Rank;
 use std::alloc::Allocator;
 
 /// The rank of each heap up to the end of the first period, from that of the heap 0 on, which is none.
+#[tactic(auto, using(crate::proofs::Listed::first_rank, crate::proofs::Listed::one_more, crate::proofs::Listed::all_ranks))]
 pub(crate) fn ranks<A: Allocator, B: Allocator>(
     alloc: B,
     text: &DominanceText<A>,
