@@ -42,17 +42,17 @@ module _
       (n : ℕ) (Z : List ℕ) → weight_by weight (n ∷ Z) < k → IsPosition (IsMovable heap code) (n ∷ Z)
       → IsBadBeside code c c.one (n ∷ Z) → ⊥
 
-  -- a covered part makes a lighter one, unless the part is all
-  lightened : (k : ℕ) → NoneBelow k → (X Y : List ℕ) → weight_by weight (X ++ Y) < suc k
+  -- a covered part makes a lighter one, so no part of a lightest one is covered
+  none_covered : (k : ℕ) → NoneBelow k → (X Y : List ℕ) → weight_by weight (X ++ Y) < suc k
       → IsPosition (IsMovable heap code) (X ++ Y) → IsBadBeside code c c.one (X ++ Y)
-      → IsCoveredBy IsLabel heap code c weight Y → X ≡ []
-  lightened k none X Y h p b covered =
+      → IsCoveredBy IsLabel heap code c weight Y → ⊥
+  none_covered k none X Y h p b covered =
       let movable = IsMovable heap code in
       let u = first_part movable X Y p in
       let pX = all_heaps heap code X u in
       let pY = all_heaps heap code Y (last_part movable X Y p) in
       let both = bad_parts IsLabel c m heap labels code part c.one X Y m.some pX pY b in
-      let (V, v, e, less, bad) =
+      let (V, v, e, less, bad, unless) =
       covered (c.times c.one (label_of c X)) (m.closed _ _ m.some (label_in IsLabel c m heap labels X pX))
       both.1 in
       let beside : IsBadBeside code c (c.times c.one (label_of c V)) X =
@@ -61,11 +61,11 @@ module _
       let f = weight_by-append weight X Y in
       let g = weight_by-append weight X V in
       elim (none_or_first X V) [
-        | inl (e, _) ↦ e
-        | inr (n, Z, e) ↦ absurd
-            (none n Z (subst (λ S. weight_by weight S < k) e (omega arith))
+        | inl (e, d) ↦ unless d (subst (λ S. IsBadBeside code c c.one (S ++ Y)) e b)
+        | inr (n, Z, e) ↦
+            none n Z (subst (λ S. weight_by weight S < k) e (omega arith))
             (subst (IsPosition movable) e (IsPosition-append movable X V u v))
-            (subst (IsBadBeside code c c.one) e sum))
+            (subst (IsBadBeside code c c.one) e sum)
       ]
 
   -- so each last part of a lightest one is kept
@@ -78,18 +78,14 @@ module _
       let smaller : kept Y =
       parts_kept k none Y (X ++ n ∷ []) (subst (λ S. weight_by weight S < suc k) (sym e) h)
       (subst (IsPosition movable) (sym e) p) (subst (IsBadBeside code c c.one) (sym e) b) in
-      let q = last_part movable X (n ∷ Y) p in
-      elim (keeps.closed n Y q smaller) [
+      elim (keeps.closed n Y (last_part movable X (n ∷ Y) p) smaller) [
         | inl in_kept ↦ in_kept
-        | inr covered ↦
-            let f = lightened k none X (n ∷ Y) h p b covered in
-            absurd (keeps.never_bad n Y q smaller (subst (λ S. IsBadBeside code c c.one (S ++ n ∷ Y)) f b))
+        | inr covered ↦ absurd (none_covered k none X (n ∷ Y) h p b covered)
       ]
 
   none_below : (k : ℕ) → NoneBelow k
   none_below zero n Z h p b = absurd (omega arith)
-  none_below (suc k) n Z h p b =
-      keeps.never_bad n Z p (parts_kept k (none_below k) Z (n ∷ []) h p b) b
+  none_below (suc k) n Z h p b = keeps.never_bad n Z p (parts_kept k (none_below k) (n ∷ Z) [] h p b) b
 
   pub none_is_bad : (n : ℕ) (Z : List ℕ) → IsPosition (IsMovable heap code) (n ∷ Z)
       → IsBadBeside code c c.one (n ∷ Z) → ⊥

@@ -21,20 +21,21 @@ weight_by weight [] = 0
 weight_by weight (n ∷ X) = weight n + weight_by weight X
 
 -- Beside each label beside which the position is bad, some lighter position of the same label is bad, too. It
--- may be another one beside each label.
+-- may be another one beside each label; and it may be empty only if the position isn't bad beside nothing.
 abbrev pub IsCoveredBy : {L : Type 0} → (L → Type 0) → (ℕ → Type 0) → List ℕ → LabelClaim L → (ℕ → ℕ)
     → List ℕ → Type 0
 IsCoveredBy {L} IsLabel heap code c weight Z =
     (x : L) → IsLabel x → IsBadBeside code c x Z
     → (V : List ℕ) × IsPosition (IsMovable heap code) V × (label_of c V ≡ label_of c Z)
     × (weight_by weight V < weight_by weight Z) × IsBadBeside code c x V
+    × (V ≡ [] → IsBadBeside code c c.one Z → ⊥)
 
--- The empty position is kept. One heap more beside a kept position makes none that is bad beside nothing, and
--- one that is kept or covered.
+-- The empty position is kept, and no other kept one is bad beside nothing. One heap more beside a kept position
+-- makes one that is kept or covered.
 pub record AreKept {L : Type 0} (IsLabel : L → Type 0) (heap : ℕ → Type 0) (code : List ℕ)
     (c : LabelClaim L) (weight : ℕ → ℕ) (kept : List ℕ → Type 0) : Type 0 where
   pub nothing : kept []
-  pub never_bad : (n : ℕ) (Z : List ℕ) → IsPosition (IsMovable heap code) (n ∷ Z) → kept Z
+  pub never_bad : (n : ℕ) (Z : List ℕ) → IsPosition (IsMovable heap code) (n ∷ Z) → kept (n ∷ Z)
       → IsBadBeside code c c.one (n ∷ Z) → ⊥
   pub closed : (n : ℕ) (Z : List ℕ) → IsPosition (IsMovable heap code) (n ∷ Z) → kept Z
       → kept (n ∷ Z) ⊎ IsCoveredBy IsLabel heap code c weight (n ∷ Z)
