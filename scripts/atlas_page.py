@@ -76,6 +76,18 @@ def entries_of(root: pathlib.Path, name: str) -> list[Entry]:
     return [Entry(entry) for entry in json.loads((root / f"atlas/{name}.json").read_text())["entries"]]
 
 
+def tails_of(root: pathlib.Path) -> dict[str, int]:
+    """Beyond which heap the whole game of a code is normal play, by the table of TAILS, which tails_stand compares."""
+    rows = re.findall(r"^\| (\d+) \| \d+ \| (`.*`) \|$", (root / "docs/TAILS.md").read_text(), re.M)
+    return {code: int(heap) for heap, codes in rows for code in re.findall(r"`([^`]*)`", codes)}
+
+
+def whole_of(root: pathlib.Path) -> dict[str, str]:
+    """The text of each whole game with a ruling heap, by its code."""
+    files = sorted([*root.glob("atlas/whole/*.mqw"), *root.glob("certificates/*.mqw")])
+    return {it.stem: it.read_text() for it in files}
+
+
 def partial_of(root: pathlib.Path) -> dict[str, Entry]:
     """The entry of each code that has a partial one in place of a full one."""
     return {it.code: it for name in CATALOGUES for it in entries_of(root, name) if it.heaps}

@@ -9,6 +9,8 @@ import {certificateText} from "./certificate_text.js";
  * @typedef {object} Held what the page holds of the atlas
  * @property {Quotient[]} quotients
  * @property {Record<string, string[]>} infinite of each code the parts with an infinite quotient, such as `34-33`
+ * @property {Record<string, string>} whole of each code the lines behind it of the text of its whole game
+ * @property {Record<string, number>} tails of each code beyond which heap its misère play is normal play
  */
 
 /**
@@ -23,16 +25,23 @@ import {certificateText} from "./certificate_text.js";
  * @property {number | null} tame the n of T_n, or null of a wild quotient
  * @property {number | null} infinite the least last heap to which the quotient of its game is infinite, by a
  * certificate
+ * @property {boolean} whole whether a text says the outcome of each position of the whole game
+ * @property {number | null} tail beyond which heap its game's misère play is normal play
  */
+
+/** As a part, the whole game. */
+export const WHOLE = "whole";
 
 export class Atlas {
   /** @param {Held} held */
-  constructor({quotients, infinite}) {
+  constructor({quotients, infinite, whole, tails}) {
     this.quotients = quotients;
     this.infinite = new Map(Object.entries(infinite));
+    this.whole = new Map(Object.entries(whole));
+    this.tails = new Map(Object.entries(tails));
     /** All certificates in the order of their games, and of a game the furthest first. */
-    this.entries = quotients.flatMap((it) => entriesOf(it, this.infinite))
-                       .sort((a, b) => a.place - b.place || reach(b) - reach(a));
+    this.entries =
+        quotients.flatMap((it) => entriesOf(it, this)).sort((a, b) => a.place - b.place || reach(b) - reach(a));
     /** Those of each code. */
     this.games = grouped(this.entries, ({code}) => code);
     /** Those of each class of bipartite monoids up to isomorphism. */
@@ -55,6 +64,8 @@ export class Atlas {
    * @param {string} name
    */
   text(name) {
+    const [code, part] = name.split("/"), whole = this.whole.get(code);
+    if (part === WHOLE) return whole ? `mqw 1\ncode ${code}\n${whole}` : null;
     const entry = this.entry(name);
     return entry && certificateText(entry.code, entry.quotient);
   }
@@ -79,10 +90,10 @@ export class Atlas {
 
 /**
  * @param {Quotient} quotient
- * @param {Map<string, string[]>} infinite
+ * @param {Pick<Atlas, "infinite" | "whole" | "tails">} atlas
  * @returns {Entry[]}
  */
-function entriesOf(quotient, infinite) {
+function entriesOf(quotient, {infinite, whole, tails}) {
   const {order, portion, kind, codes} = quotient;
   const last = lastHeap(quotient);
   const [, number] = kind.match(/^tame (\d+)$/) ?? [];
@@ -91,7 +102,8 @@ function entriesOf(quotient, infinite) {
     const name = last === null ? code : `${code}/${last}`;
     const lasts = (infinite.get(code) ?? []).map((it) => parseInt(it, 10));
     const least = lasts.length ? Math.min(...lasts) : null;
-    return {code, name, place, quotient, order, portion: portion.length, last, tame, infinite: least};
+    const known = {infinite: least, whole: whole.has(code), tail: tails.get(code) ?? null};
+    return {code, name, place, quotient, order, portion: portion.length, last, tame, ...known};
   });
 }
 

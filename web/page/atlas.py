@@ -8,7 +8,8 @@ certificate stands here as its heaps, its portion and what multiplication.py lea
 page makes all of its lines again (certificate_text.js). Nothing is believed of that: the page has each text checked.
 
 Beside the entries of the catalogues there are further parts of games without a full one: those of atlas/parts.json. A
-code stands with each of its quotients.
+code stands with each of its quotients. The texts of whole games stand here but for their first two lines, and of tails
+the heaps beyond which misère play is normal play, as `misere tail` told it.
 """
 import json
 import pathlib
@@ -62,14 +63,15 @@ def further_of(page):
 def main():
     root, to, *named = map(pathlib.Path, sys.argv[1:])
     sys.path.insert(0, str(root / "scripts"))
-    from atlas_page import Page
+    from atlas_page import Page, tails_of, whole_of
 
     page = Page(root, *(named or [root / "crates/misere/out/misere"]))
     place = {entry.code: at for at, entry in enumerate(page.entries)}
     groups = [*page.groups, *further_of(page)]
     classes = classes_of([(rows_of(group[0]), numbers(group[0].words["portion"])) for group in groups])
     quotients = [quotient(group, number, place) for group, number in zip(groups, classes)]
-    held = {"quotients": quotients, "infinite": names_of(root)}
+    whole = {code: text.split("\n", 2)[2] for code, text in whole_of(root).items()}
+    held = {"quotients": quotients, "infinite": names_of(root), "whole": whole, "tails": tails_of(root)}
     to.write_text(json.dumps(held, separators=(",", ":")))
     told = f"{len(place)} games, {len(quotients)} quotients, {len(set(classes))} bipartite monoids up to isomorphism"
     print(f"atlas.py: {told}", file=sys.stderr)

@@ -4,6 +4,7 @@
 import {fieldsOf, nameOf} from "./certificate.js";
 import {infiniteName, infiniteOf, isInfinite} from "./infinite/fields.js";
 import {heldText} from "./infinite/held.js";
+import {isWhole, wholeName, wholeOf} from "./whole/fields.js";
 
 /** Behind this the session's storage keeps a certificate under its name. */
 const PREFIX = "misere ";
@@ -26,8 +27,8 @@ export class Collection {
   }
 
   /**
-   * The certificate of a name: a code; a code and the last heap of a part, such as `0.75/8`; or one of an infinite
-   * quotient, such as `0.07/34-33` for the heaps 1 to 34 without 33.
+   * The certificate of a name: a code; a code and the last heap of a part, such as `0.75/8`; one of an infinite
+   * quotient, such as `0.07/34-33` for the heaps 1 to 34 without 33; or that of a whole game, such as `0.26/whole`.
    * @param {string} name
    * @returns {Promise<string | null>}
    */
@@ -40,8 +41,7 @@ export class Collection {
    * @param {string} text
    */
   keep(text) {
-    const name = isInfinite(text) ? infiniteName(infiniteOf(text)) : nameOf(fieldsOf(text));
-    const [code] = name.split("/");
+    const name = nameOfText(text), [code] = name.split("/");
     for (const known of [code, name])
       if (this.atlas.text(known) === text) return known;
     this.#own.set(name, text);
@@ -56,6 +56,12 @@ export class Collection {
     this.#infinite ??= this.#unpack();
     return heldText(await this.#infinite, code, part);
   }
+}
+
+/** @param {string} text */
+function nameOfText(text) {
+  if (isWhole(text)) return wholeName(wholeOf(text).code);
+  return isInfinite(text) ? infiniteName(infiniteOf(text)) : nameOf(fieldsOf(text));
 }
 
 /** @param {string} name */

@@ -1,6 +1,8 @@
 // What is asked of a certificate: by the calls for finite quotients, or by those for infinite ones.
 
 import {isInfinite} from "./infinite/fields.js";
+import {isUnread} from "./refusals.js";
+import {isWhole} from "./whole/fields.js";
 
 /** @typedef {import("../calls.js").Answer} Answer */
 /** @typedef {import("../calls.js").Position} Position */
@@ -17,15 +19,27 @@ export class Oracle {
   constructor(prover, bytes) {
     this.#prover = prover;
     this.#bytes = bytes;
-    this.#isInfinite = isInfinite(bytes);
+    this.#isInfinite = isInfinite(bytes) || isWhole(bytes);
   }
 
   /**
-   * Whether the module can be asked. (One without the calls for infinite quotients knows finite ones alone.)
+   * Whether the module can be asked. (One may lack the calls for infinite quotients, or read no texts of whole games.)
    * @returns {Promise<boolean>}
    */
   async isAble() {
-    return !this.#isInfinite || (await this.#prover.ask("knowsInfinite")).answer;
+    if (!this.#isInfinite) return true;
+    if (!(await this.#prover.ask("knowsInfinite")).answer) return false;
+    return !isWhole(this.#bytes) || this.#isRead();
+  }
+
+  /** Whether the module reads a text that spells something, as far as the page sees. */
+  async #isRead() {
+    try {
+      await this.check();
+      return true;
+    } catch (failure) {
+      return !isUnread(failure, this.#bytes);
+    }
   }
 
   /**

@@ -31,6 +31,15 @@ export const TERMS = {
   "Base": "The position beside which an up and a down cancel.",
   "Up": "Heaps that are added: any two of base, base + up, base + 2·up, .. are told apart.",
   "Down": "Heaps that undo an up beside the base, as far as outcomes go.",
+  "Parity": "A position is odd if it has an odd number of odd heaps.",
+  "Weight": "A number of each heap. A position has the sum of these of its heaps.",
+  "Lead": "By how much a heap can rule: it rules a position if the other heaps together weigh less than its lead.",
+  "Rules": "A heap rules a position if the other heaps together weigh less than its lead.",
+  "Normal play": "The player who makes the last move wins. A position is P exactly if the nim values of its heaps, " +
+      "added in binary without carry, come to 0.",
+  "Whole game":
+      "What is known of the game with all its heaps, if no finite quotient is: that none exists, or the outcome of " +
+      "each position, or beyond which heap misère play is normal play.",
   "Same quotient": "Other codes whose certificate has the same lines but for the code.",
   "Same monoid": "Certificates whose monoids and portions are isomorphic, whichever heaps have their elements.",
 };

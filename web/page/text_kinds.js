@@ -18,7 +18,6 @@ const KINDS = [
   [PACKED, "It is packed: unpack it first."],
   [/^(\xff\xfe|\xfe\xff)/, "The text has two bytes a letter (UTF-16). A certificate is plain ASCII."],
   [/^\xef\xbb\xbf/, "The text begins with a byte order mark, as some editors write it. A certificate has none."],
-  [/^mqw /, "This is the text of a whole game with a ruling heap: misere infinite FILE checks it, this page can't."],
   [/^table /, "This is a quotient by its table: misere certify FILE makes a certificate of it."],
   [/^\s*\{[^]*"entries"/, "This is a catalogue: misere catalogue FILE checks all of its certificates."],
   [/^\s*[{[]/, "This is JSON, and a certificate is a text of lines. It may be what misere prints with --json."],

@@ -6,6 +6,8 @@ import {isCode} from "./codes.js";
 
 /** The most heaps that the line `phi` has, and the largest number of a track. */
 const [MOST_ENTRIES, LARGEST_COUNT] = [4096, 1000];
+/** The most heaps of which a text of a whole game lists the triples, and the largest rise, weight and lead. */
+const [MOST_LABELS, LARGEST_WEIGHT] = [1024, 60000];
 /** How many numbers a track has before its weights. */
 const NUMBERS_OF_TRACK = 6;
 
@@ -103,6 +105,21 @@ const INFINITE = {
   down: ({heaps}) => ({atLeast: 0, least: 1, below: heaps + 1}),
 };
 
+/** @param {number} most */
+const labels = (most) => (/** @type {Numbers} */ {start, period}) => ({count: start + period - 1, below: most + 1});
+
+/** @type {Format["lines"]} */
+const WHOLE = {
+  ...SHARED,
+  mqw: () => ({count: 1, least: 1, below: 2}),
+  start: () => ({count: 1, least: 1, below: MOST_LABELS + 1}),
+  period: ({start}) => ({count: 1, least: 1, below: MOST_LABELS + 2 - start}),
+  rise: () => ({count: 1, least: 1, below: LARGEST_WEIGHT + 1}),
+  odd: labels(1),
+  weights: labels(LARGEST_WEIGHT),
+  leads: labels(LARGEST_WEIGHT),
+};
+
 /**
  * @param {string} names
  * @returns {Step[]}
@@ -115,7 +132,7 @@ function once(names) {
 const ROWS = ["row", 0, Infinity];
 const HEAD = once("mqc code order start period phi portion words");
 
-/** @type {Record<"whole" | "third" | "infinite", Format>} */
+/** @type {Record<"whole" | "third" | "infinite" | "game", Format>} */
 const FORMATS = {
   whole: {steps: [...HEAD, ROWS, ...once("apart end")], foreign: /[^a-z0-9 .:]/, isShort: false, lines: FINITE},
   third: {steps: [...HEAD, ROWS, ...once("end")], foreign: /[^a-z0-9 .:]/, isShort: true, lines: FINITE},
@@ -128,6 +145,12 @@ const FORMATS = {
     isShort: true,
     lines: INFINITE
   },
+  game: {
+    steps: once("mqw code start period rise odd weights leads end"),
+    foreign: /[^a-z0-9 .]/,
+    isShort: false,
+    lines: WHOLE
+  },
 };
 
 /**
@@ -136,5 +159,6 @@ const FORMATS = {
  */
 export function formatNamed(text) {
   if (text.startsWith("mqi")) return FORMATS.infinite;
+  if (text.startsWith("mqw")) return FORMATS.game;
   return text.startsWith("mqc 3\n") ? FORMATS.third : FORMATS.whole;
 }

@@ -26,7 +26,7 @@ import {Failure} from "../page/prover.js";
 import {reasonOf, told, toldOfCertificate} from "../page/refusals.js";
 import {TERMS} from "../page/terms.js";
 
-import {atlas, fileOf, infinite, parts, printed, refusedInfinite, root, sample, samples} from "./setup.js";
+import {atlas, fileOf, infinite, parts, printed, refusedInfinite, root, sample, samples, wholeTexts} from "./setup.js";
 
 const folder = process.env.MISERE_HELD ?? path.join(root, "web/out");
 const heldIn = (/** @type {string} */ name) => JSON.parse(readFileSync(path.join(folder, name), "utf8"));
@@ -144,6 +144,12 @@ test("as many games are listed as docs/ATLAS.md counts", () => {
   assert.equal(listed("each=certificate").length, atlas.length + parts.length);
 });
 
+const isSolved = new Set(wholeTexts.map(([code]) => code));
+const endless = new Set([...infinite.map(({name}) => name.split("_")[0]), ...isSolved]);
+/** The codes of docs/TAILS.md. */
+const tailRows = readFileSync(path.join(root, "docs/TAILS.md"), "utf8").match(/^\| \d+ \| \d+ \| `.*$/gm) ?? [];
+const tails = new Set(tailRows.flatMap((row) => [...row.matchAll(/`([^`]*)`/g)].map(([, code]) => code)));
+
 /** @type {[string, string, (entry: import("../page/atlas.js").Entry) => boolean][]} */
 const CHOICES = [
   ["a beginning", "code=0.77", ({code}) => code.startsWith("0.77")],
@@ -157,7 +163,8 @@ const CHOICES = [
   ["periods", "period=1-19", ({last, quotient}) => last === null && quotient.period < 20],
   ["a tame index", "tame=2", ({tame}) => tame === 2],
   ["tame indices", "tame=0-1", ({tame}) => tame !== null && tame <= 1],
-  ["no finite quotient", "speaks=infinite", ({code}) => infinite.some(({name}) => name.startsWith(`${code}_`))],
+  ["no finite quotient", "speaks=infinite", ({code}) => endless.has(code)],
+  ["each outcome known", "speaks=solved", ({code, last}) => last === null || isSolved.has(code) || tails.has(code)],
   ["orders", "order=20-36", ({order}) => order >= 20 && order <= 36],
 ];
 
@@ -178,7 +185,10 @@ test("games are chosen by what the fields say", async (t) => {
 const fieldsOfLine = (/** @type {string} */ line) => line.split(",");
 
 test("what is listed is saved, as CSV and as JSON", () => {
-  const names = ["code", "name", "order", "portion", "start", "period", "last_heap", "tame", "infinite_to", "same"];
+  const names = [
+    "code", "name", "order", "portion", "start", "period", "last_heap", "tame", "infinite_to", "whole", "normal_above",
+    "same"
+  ];
   for (const word of ["", "code=0.0", "each=certificate", "each=quotient&kind=wild", "each=monoid", "code=none"]) {
     const rows = listed(word), data = listedOf(rows);
     assert.deepEqual(JSON.parse(jsonOf(data)), data);
@@ -204,10 +214,13 @@ test("a row is told by its numbers", () => {
     last_heap: null,
     tame: null,
     infinite_to: null,
+    whole: false,
+    normal_above: null,
   });
   const {start, period, last_heap, infinite_to} = listedOf(listed("code=0.07"))[0];
   assert.deepEqual(
       {start, period, last_heap, infinite_to}, {start: null, period: null, last_heap: 33, infinite_to: 34});
+  assert.deepEqual([listedOf(listed("code=0.26"))[0].whole, listedOf(listed("code=0.561"))[0].normal_above], [true, 6]);
 });
 
 test("a name is that of a code", () => {

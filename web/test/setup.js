@@ -70,6 +70,13 @@ const infiniteIn = (/** @type {string} */ place) =>
 export const infinite = infiniteIn("atlas/infinite");
 export const refusedInfinite = infiniteIn("certificates/refused");
 
+/** The texts of whole games, each with its code. */
+export const wholeTexts = ["atlas/whole", "certificates"].flatMap((place) => {
+  const names = readdirSync(path.join(root, place)).filter((name) => name.endsWith(".mqw"));
+  const textOf = (/** @type {string} */ name) => readFileSync(path.join(root, place, name), "utf8");
+  return names.map((name) => /** @type {[string, string]} */ ([name.slice(0, -4), textOf(name)]));
+});
+
 /**
  * Numbers that look random and are the same in each run (xorshift, of 32 bits).
  * @param {number} seed

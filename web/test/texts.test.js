@@ -17,7 +17,6 @@ const good = sample("0.33").toString(), lines = good.split("\n");
 const KINDS = [
   ["", /^There is nothing/],
   ["table 1\ncode 0.33\n", /misere certify FILE/],
-  ["mqw 1\ncode 0.26\n", /with a ruling heap/],
   ["{\"version\":1,\"entries\":[]}", /misere catalogue FILE/],
   ["[1]", /JSON/],
   ["Q(0.33) = < a,b | a^2=1 >\n", /misere describe/],

@@ -9,7 +9,8 @@ import {isNamed} from "../codes.js";
 /**
  * @typedef {object} Chosen
  * @property {string} code what the code has in it, or how it begins; or a part of a name
- * @property {string} speaks `full`, `partial`, `infinite` for games without a finite one, or the empty text
+ * @property {string} speaks `full`, `partial`, `infinite` for games without a finite one, `solved` for those of which
+ * each outcome is known, or the empty text
  * @property {string} kind `tame`, `wild`, or the empty text for both
  * @property {string} order a number, or two such as `6-12`
  * @property {string} portion the same
@@ -93,15 +94,21 @@ export function rowsOf(atlas, chosen) {
   return rows.sort(([a], [b]) => (down ? -1 : 1) * compared(a, b) || a.place - b.place);
 }
 
+/** @type {Record<string, (entry: Entry) => boolean>} */
+const SPEAKS = {
+  full: ({last}) => last === null,
+  partial: ({last}) => last !== null,
+  infinite: ({infinite, whole}) => infinite !== null || whole,
+  solved: ({last, whole, tail}) => last === null || whole || tail !== null,
+};
+
 /**
  * @param {Entry} entry
  * @param {Chosen} chosen
  */
 function isSought(entry, {code, speaks, kind, order, portion, period, tame}) {
   const isFull = entry.last === null, isTame = entry.tame !== null;
-  const isInfinite = entry.infinite !== null;
-  return isMeant(entry.code, code.trim()) &&
-      (!speaks || (speaks === "infinite" ? isInfinite : (speaks === "full") === isFull)) &&
+  return isMeant(entry.code, code.trim()) && (SPEAKS[speaks]?.(entry) ?? true) &&
       (!kind || (kind === "tame") === isTame) && isWithin(entry.order, order) && isWithin(entry.portion, portion) &&
       isWithin(isFull ? entry.quotient.period : null, period) && isWithin(entry.tame, tame);
 }

@@ -33,7 +33,11 @@ export function controls(chosen, choose) {
       labelled(
           "Quotient",
           picked(
-              "speaks", [["", "full or partial"], ["full", "full"], ["partial", "partial"], ["infinite", "infinite"]])),
+              "speaks",
+              [
+                ["", "full or partial"], ["full", "full"], ["partial", "partial"], ["infinite", "infinite"],
+                ["solved", "each outcome known"]
+              ])),
       labelled("Kind", picked("kind", [["", "tame or wild"], ["tame", "tame"], ["wild", "wild"]])),
       labelled("Order", written("order", {size: 7, placeholder: "8 or 6-20"})),
       labelled("Portion", written("portion", {size: 7, placeholder: "2 or 1-5"})),

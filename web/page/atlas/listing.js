@@ -15,6 +15,8 @@ import {GAME_NAMES} from "../codes.js";
  * @property {number | null} last_heap the last heap of a partial quotient, else null
  * @property {number | null} tame the n of T_n, or null of a wild quotient
  * @property {number | null} infinite_to the least last heap to which a certificate says that the quotient is infinite
+ * @property {boolean} whole whether a text says the outcome of each position of the whole game
+ * @property {number | null} normal_above beyond which heap misère play is normal play
  * @property {string[]} same the other codes of the row
  */
 
@@ -23,7 +25,7 @@ import {GAME_NAMES} from "../codes.js";
  * @returns {Listed[]}
  */
 export function listedOf(groups) {
-  return groups.map(([{code, order, portion, last, tame, infinite, quotient: {start, period}}, ...others]) => ({
+  return groups.map(([{quotient: {start, period}, code, order, portion, last, ...first}, ...others]) => ({
                       code,
                       name: GAME_NAMES.get(code) ?? "",
                       order,
@@ -31,8 +33,10 @@ export function listedOf(groups) {
                       start: last === null ? start : null,
                       period: last === null ? period : null,
                       last_heap: last,
-                      tame,
-                      infinite_to: infinite,
+                      tame: first.tame,
+                      infinite_to: first.infinite,
+                      whole: first.whole,
+                      normal_above: first.tail,
                       same: others.map((it) => it.code),
                     }));
 }
@@ -42,12 +46,16 @@ export function listedOf(groups) {
  * @param {Listed[]} rows
  */
 export function csvOf(rows) {
-  const names = ["code", "name", "order", "portion", "start", "period", "last_heap", "tame", "infinite_to", "same"];
   const lines = rows.map((row) => Object.values({...row, same: row.same.join(" ")}).map(fieldOf).join(","));
-  return [names.join(","), ...lines, ""].join("\r\n");
+  return [COLUMNS.join(","), ...lines, ""].join("\r\n");
 }
 
-/** @param {string | number | null} value */
+const COLUMNS = [
+  "code", "name", "order", "portion", "start", "period", "last_heap", "tame", "infinite_to", "whole", "normal_above",
+  "same"
+];
+
+/** @param {string | number | boolean | null} value */
 function fieldOf(value) {
   const text = String(value ?? "");
   return /[",\r\n]/.test(text) ? `"${text.replaceAll("\"", "\"\"")}"` : text;

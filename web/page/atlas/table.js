@@ -1,6 +1,7 @@
 // The list of the atlas: its columns and rows.
 
 import {gameAddress} from "../address.js";
+import {WHOLE} from "../atlas.js";
 import {GAME_NAMES} from "../codes.js";
 import {make} from "../dom.js";
 
@@ -29,7 +30,7 @@ const DETAILS = [
 ];
 /** @type {Column[]} */
 const COUNTS = [
-  {name: "Infinite", kind: "wide", cell: (entry, atlas) => endlessOf(entry, atlas, `to heap ${entry.infinite}`)},
+  {name: "Whole game", kind: "wide", cell: wholeOf},
   {name: "Same quotient", kind: "wide", cell: ({quotient}) => othersOf(quotient.codes)},
   {name: "Same monoid", kind: "wide", cell: ({quotient}, atlas) => othersOf(atlas.classes.get(quotient.class) ?? [])},
 ];
@@ -80,15 +81,28 @@ function periodOf({last, quotient: {period, start}}) {
 }
 
 /**
- * A link to the certificate of the least last heap that says that a game has no finite quotient.
+ * A link to what says that a game has no finite quotient: the certificate of the least last heap, or the text of the
+ * whole game.
  * @param {Entry} entry
  * @param {Atlas} atlas
  * @param {string} words
  */
-function endlessOf({code, infinite}, atlas, words) {
-  const [first] = atlas.infinite.get(code) ?? [];
-  const title = `no finite quotient: infinite to heap ${infinite}`;
+function endlessOf({code, infinite, whole}, atlas, words) {
+  const [first] = whole ? [WHOLE] : (atlas.infinite.get(code) ?? []);
+  const title = `no finite quotient: ${whole ? "each outcome is known" : `infinite to heap ${infinite}`}`;
   return first && make("a", {href: gameAddress(`${code}/${first}`), title, "aria-label": title}, words);
+}
+
+/**
+ * What is known of the whole game, if no finite quotient is.
+ * @param {Entry} entry
+ * @param {Atlas} atlas
+ */
+function wholeOf(entry, atlas) {
+  const {code, infinite, whole, tail} = entry;
+  if (infinite !== null) return endlessOf(entry, atlas, `infinite to heap ${infinite}`);
+  if (whole) return endlessOf(entry, atlas, "infinite, solved");
+  return tail !== null && make("a", {href: gameAddress(code)}, `normal beyond ${tail}`);
 }
 
 /** @param {unknown[]} all */

@@ -43,6 +43,11 @@ export function infiniteSection({text, code, last, leftOut}, describe) {
   return keptSection(text, `${code}_heaps_${last}${without}.mqi`, describe ? forms : []);
 }
 
+/** @param {import("../whole/fields.js").Whole} whole */
+export function wholeSection({text, code}) {
+  return keptSection(text, `${code}.mqw`, []);
+}
+
 /**
  * @typedef {[string, string, () => Promise<string>]} Form what else is copied: its name, that of its button, and the
  *     text

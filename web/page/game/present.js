@@ -9,6 +9,8 @@ import {presentInfinite} from "../infinite/present.js";
 import {wordsOf} from "../monoid.js";
 import {Failure} from "../prover.js";
 import {alertOf, isNo, lineTold, toldOfCertificate} from "../refusals.js";
+import {isWhole} from "../whole/fields.js";
+import {presentWhole} from "../whole/present.js";
 
 import {askSection} from "./ask.js";
 import {certificateSection} from "./certificate_section.js";
@@ -43,6 +45,7 @@ const NOT_DESCRIBED = 16;
  */
 export async function present(page, root, bytes, isGame = false) {
   if (isInfinite(bytes)) return presentInfinite(page, root, bytes, isGame);
+  if (isWhole(bytes)) return presentWhole(page, root, bytes, isGame);
   const verdict = make("p", {class: "verdict", id: "verdict", role: "status"}, "Checking …");
   const kind = kindNote(bytes);
   fill(root, kind, verdict);

@@ -15,12 +15,20 @@ const LARGEST = 63;
  */
 export function outcomePicture(page, {bytes, certificate}) {
   const largest = Math.min(LARGEST, lastHeap(certificate) ?? LARGEST);
+  return outcomesOfPairs(largest, async (positions) => (await page.prover.ask("outcomes", bytes, positions)).answer);
+}
+
+/**
+ * The same of any game.
+ * @param {number} largest the largest heap
+ * @param {(positions: number[][]) => Promise<Uint32Array>} outcomesOf
+ */
+export function outcomesOfPairs(largest, outcomesOf) {
   const side = largest + 1;
   const positions =
       Array.from({length: side * side}, (_, at) => [at % side, Math.floor(at / side)].filter((heap) => heap > 0));
   const place = make("div", {class: "picture"});
-  page.prover.ask("outcomes", bytes, positions)
-      .then(({answer}) => fill(place, drawn(side, answer)), (failure) => fill(place, alertOf(failure)));
+  outcomesOf(positions).then((told) => fill(place, drawn(side, told)), (failure) => fill(place, alertOf(failure)));
   return place;
 }
 

@@ -1,8 +1,9 @@
-// What a play needs of a certificate, of a finite quotient or of an infinite one.
+// What a play needs of a certificate, of a finite quotient, of an infinite one or of a whole game.
 
 import {fieldsOf, lastHeap} from "../certificate.js";
 import {memberOf} from "../infinite/family.js";
 import {heapsTold, infiniteOf, isInfinite, speaksOf} from "../infinite/fields.js";
+import {isWhole, wholeOf} from "../whole/fields.js";
 
 export const USUAL_HEAPS = [3, 4, 5];
 
@@ -19,6 +20,7 @@ export const USUAL_HEAPS = [3, 4, 5];
  * @returns {Reading}
  */
 export function readingOf(text) {
+  if (isWhole(text)) return {code: wholeOf(text).code, reach: "all heaps", speaksOf: () => true, usual: USUAL_HEAPS};
   if (isInfinite(text)) {
     const it = infiniteOf(text);
     return {code: it.code, reach: heapsTold(it), speaksOf: (heaps) => speaksOf(it, heaps), usual: memberOf(it, 1, 1)};

@@ -15,6 +15,8 @@ const PROVED = [
       "occur.",
   "If it says infinite to a certificate with tracks, the certificate is right about who wins each position of its " +
       "heaps, and their misère quotient is infinite: neither they nor the whole game have a finite one.",
+  "If it says infinite, and whole, to the text of a whole game, that is right about who wins each position of the " +
+      "game, of any number of heaps of any size, and about which positions are indistinguishable.",
   "A no is true of the bytes: the fault that is named is there. (8, 9, 33 and 34 say no more than that no yes came.)",
   "The relations, words, units, idempotents and kernel of a description are those of the certified quotient. The " +
       "outcome of a position, its element and its first winning move are true.",
@@ -31,7 +33,9 @@ const TRUSTED = [
   "Your browser, and how the page passes bytes to the module and back.",
   "What the page draws. Its rules in words, its moves, its words for elements beyond those of a description, its " +
       "components and its pictures are its own reading of a certificate. So are the heaps, base, up and down of one " +
-      "of an infinite quotient, and the positions of its family; their outcomes are the module’s.",
+      "of an infinite quotient, and the positions of its family; their outcomes are the module’s. So are the triples " +
+      "of a whole game.",
+  "Beyond which heap a game is normal play: the program said so when the page was made.",
   "Which quotients are isomorphic, and which are tame in the list of the atlas: both were worked out when the page " +
       "was made. (A game’s page works out again whether it is tame.)",
 ];
@@ -44,7 +48,8 @@ export async function aboutView({atlas, module}, root) {
   const list = (/** @type {string[]} */ items) => make("ul", {}, items.map((it) => make("li", {}, it)));
   const sum = make("code", {class: "sum"}, "…");
   const checked = `The page holds the certificates of ${atlas.games.size} small games, and of ` +
-      `${atlas.infinite.size} of them certificates that they have no finite quotient. What it says of a game is ` +
+      `${atlas.infinite.size + atlas.whole.size} of them certificates that they have no finite quotient. What it ` +
+      "says of a game is " +
       "checked here by the proved checker, compiled for the browser. Nothing is asked of a server and nothing is sent.";
   const version = document.querySelector("meta[name=version]")?.getAttribute("content");
   const bytes = module.byteLength.toLocaleString("en");

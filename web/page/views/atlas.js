@@ -14,7 +14,8 @@ import {glossary} from "../terms.js";
 
 /** So many rows are shown at once, and the others right behind them. */
 const FIRST_ROWS = 60;
-const WORDS = ["Order", "Portion", "Period", "Kind", "No finite quotient", "Same quotient", "Same monoid"];
+const WORDS =
+    ["Order", "Portion", "Period", "Kind", "No finite quotient", "Whole game", "Same quotient", "Same monoid"];
 
 /**
  * @param {import("../main.js").Page} page
@@ -62,12 +63,13 @@ export async function atlasView(page, root, word) {
 }
 
 /** @param {import("../atlas.js").Atlas} atlas */
-function introductionOf({games, entries, quotients, classes, infinite}) {
+function introductionOf({games, entries, quotients, classes, infinite, whole, tails}) {
   return `The misère quotients of ${games.size} octal and hexadecimal games, by ${entries.length} certificates. ` +
       "In misère play the player who makes the last move loses. " +
       `There are ${quotients.length} quotients, told apart by the elements of their heaps too, ` +
       `and ${classes.size} bipartite monoids up to isomorphism, as a script counted when this page was made. ` +
-      `Of ${infinite.size} games there are certificates that they have no finite quotient.`;
+      `${infinite.size + whole.size} games have no finite quotient, by certificates. Of ${whole.size} of these, and ` +
+      `of ${tails.size} that are normal play beyond a heap, each outcome is known all the same.`;
 }
 
 /**

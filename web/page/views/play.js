@@ -13,7 +13,7 @@ import {heapsOfText} from "../positions.js";
 
 const USUAL_NAME = "0.77";
 const LARGEST_DEALT = 12;
-const UNABLE = "This page’s module has no calls for infinite quotients, so nothing plays here.";
+const UNABLE = "This page’s module has no calls for such a certificate, so nothing plays here.";
 
 const HOW = ". Choose adjacent tokens of a heap; what is left on either side stays as heaps. " +
     "The program plays by the certified quotient: where a move wins, it makes one.";

@@ -10,8 +10,9 @@ NAME, FILE = "0.354/5", "0.354_heaps_5.mqi"
 
 def drive(it, program, steps):
     codes = {file.name.split("_")[0] for file in (program.root / "atlas/infinite").glob("*.mqi")}
+    whole = program.module("atlas_page").whole_of(program.root)
     it.go("#atlas=speaks=infinite")
-    it.listed(len(codes))
+    it.listed(len(codes | whole.keys()))
     steps.expect("the games that have none are listed", True, it.text(".count"))
     it.go(f"#game={NAME}")
     said = it.said("#verdict", "infinite 0", "Not checked", "no ", "No verdict")

@@ -7,7 +7,8 @@ import tempfile
 from selenium.webdriver.common.action_chains import ActionChains
 from selenium.webdriver.common.keys import Keys
 
-VIEWS = ("atlas", "game=0.77", "game=0.07", "game=0.354/5", "play=0.77:3,14,40", "check", "find=0.75", "about")
+GAMES = ("game=0.77", "game=0.07", "game=0.354/5", "game=0.26/whole")
+VIEWS = ("atlas", *GAMES, "play=0.77:3,14,40", "check", "find=0.75", "about")
 WIDTHS = "return [document.documentElement.scrollWidth, innerWidth]"
 UNNAMED = """return [...document.querySelectorAll('button, input, select, textarea, canvas, svg, a')].filter((it) =>
     !(it.textContent.trim() && it.localName !== 'select') && !it.getAttribute('aria-label') && !it.labels?.length)
@@ -34,7 +35,7 @@ def shown(it, view):
     it.open(f"#{view}")
     it.wait(lambda: it.text("h1"))
     if view.startswith(("game", "find")):
-        it.wait(lambda: it.all("svg.family") or len(it.all(".grid")) == 2)
+        it.wait(lambda: it.all("svg.family, #triples") or len(it.all(".grid")) == 2)
     if view.startswith("play"):
         it.wait(lambda: it.all(".token"))
 

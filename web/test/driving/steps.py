@@ -62,7 +62,7 @@ class Program:
         return self.module("script").load(self.root / "scripts" / name, name)
 
     def certificate(self, name):
-        return self.root / "certificates" / (name if name.endswith(".mqi") else f"{name}.mqc")
+        return self.root / "certificates" / (name if name.endswith((".mqi", ".mqw")) else f"{name}.mqc")
 
     def samples(self):
         folder = self.root / "certificates"
@@ -79,7 +79,7 @@ class Program:
     def move(self, name, position):
         """The first winning move in a position, as the page writes it, or `lost`, or `ended`."""
         file = self.certificate(name)
-        words = self.told("infinite" if file.suffix == ".mqi" else "play", file, position).split()
+        words = self.told("play" if file.suffix == ".mqc" else "infinite", file, position).split()
         if words[0] != "wins":
             return words[0]
         left = [word for word in words[3:] if word != "0"]
@@ -87,6 +87,6 @@ class Program:
 
     def verdict(self, file):
         """The line of a verdict, with the failing position behind it as the page writes it."""
-        first, *rest = self.told("infinite" if file.suffix == ".mqi" else "check", file).splitlines()
+        first, *rest = self.told("check" if file.suffix == ".mqc" else "infinite", file).splitlines()
         heaps = [word for line in rest for word in line.split()[3:] if word != "0"]
         return f"{first} at [{', '.join(counted(heaps))}]" if first.startswith("no 7") else first

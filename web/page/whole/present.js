@@ -1,0 +1,104 @@
+// The text of a whole game is checked, and if the checker accepts it, all that it says is shown.
+
+import {playAddress} from "../address.js";
+import {fill, make} from "../dom.js";
+import {askForm, outcomeOf} from "../game/ask.js";
+import {wholeSection} from "../game/certificate_section.js";
+import {linksOf} from "../game/links.js";
+import {ruleSection} from "../game/quotient.js";
+import {Oracle} from "../oracle.js";
+import {outcomesOfPairs} from "../pictures/outcomes.js";
+import {LARGEST_HEAP_PLAYED, MOST_HEAPS_PLAYED} from "../play/bounds.js";
+import {USUAL_HEAPS} from "../play/reading.js";
+import {isNo, lineTold, toldOfCertificate} from "../refusals.js";
+
+import {tripleOf, wholeName, wholeOf, wholeVerdict} from "./fields.js";
+import {tripleSection} from "./table.js";
+import {QUOTIENT, wholeTheorem} from "./theorem.js";
+
+/** @typedef {import("../main.js").Page} Page */
+/** @typedef {import("./fields.js").Whole} Whole */
+
+const NOT_CHECKED = "Not checked here: this page’s module reads no texts of whole games. The program checks it, by " +
+    "misere infinite.";
+
+/**
+ * Shows the verdict on a text, and behind a yes what it says; nothing more once another verdict has its place.
+ * @param {Page} page
+ * @param {HTMLElement} root
+ * @param {Uint8Array} bytes
+ * @param {boolean} isGame whether it is shown as a game's, so that what else is known of that stands above
+ */
+export async function presentWhole(page, root, bytes, isGame = false) {
+  const verdict = make("p", {class: "verdict", id: "verdict", role: "status"}, "Checking …");
+  fill(root, verdict);
+  const oracle = new Oracle(page.prover, bytes);
+  const whole = wholeOf(new TextDecoder().decode(bytes));
+  try {
+    if (!(await oracle.isAble())) return showUnchecked(root, verdict, whole);
+    const time = await oracle.check();
+    if (verdict.parentNode !== root) return;
+    const taken = time < 1 ? "less than 1 ms" : `${time.toFixed(0)} ms`;
+    verdict.classList.add("yes");
+    fill(verdict, wholeVerdict(whole), make("span", {class: "soft"}, ` (checked here in ${taken})`));
+    root.append(...sectionsOf(page, oracle, whole, isGame));
+  } catch (failure) {
+    verdict.classList.add(isNo(failure) ? "no" : "none");
+    fill(verdict, toldOfCertificate(failure, () => whole.code), lineTold(failure, bytes));
+  }
+}
+
+/**
+ * What the text says, if nothing can be asked. No verdict.
+ * @param {HTMLElement} root
+ * @param {HTMLElement} verdict
+ * @param {Whole} whole
+ */
+function showUnchecked(root, verdict, whole) {
+  verdict.classList.add("none");
+  fill(verdict, NOT_CHECKED);
+  root.append(
+      make("div", {class: "partial", id: "theorem"}, "It claims: ", wholeTheorem(whole.code)), ruleSection(whole.code),
+      tripleSection(whole), wholeSection(whole));
+}
+
+/**
+ * @param {Page} page
+ * @param {Oracle} oracle
+ * @param {Whole} whole
+ * @param {boolean} isGame
+ */
+function sectionsOf(page, oracle, whole, isGame) {
+  const name = page.collection.keep(whole.text), {code} = whole;
+  const pairs = outcomesOfPairs(MOST_DRAWN, (positions) => oracle.outcomes(positions));
+  return [
+    make("div", {class: "partial", id: "theorem"}, wholeTheorem(code)),
+    linksOf(page, playAddress(name, USUAL_HEAPS), code, isGame),
+    ruleSection(code),
+    tripleSection(whole),
+    make("section", {}, make("h2", {}, "The quotient"), make("p", {}, QUOTIENT)),
+    askForm("Heaps, of any size", "2 3 1000000000000", (heaps) => saidOf(oracle, whole, heaps)),
+    make("section", {}, make("h2", {}, "Pictures"), make("div", {class: "pictures"}, pairs)),
+    wholeSection(whole),
+  ];
+}
+
+/** The largest heap of the picture. */
+const MOST_DRAWN = 63;
+
+/**
+ * @param {Oracle} oracle
+ * @param {Whole} whole
+ * @param {bigint[]} heaps
+ */
+async function saidOf(oracle, whole, heaps) {
+  const answer = await oracle.answer(heaps);
+  const {odd, weight, lead} = tripleOf(whole, heaps);
+  const ruling = lead ? `lead ${lead}` : "no heap rules";
+  const isPlayable = heaps.length <= MOST_HEAPS_PLAYED && heaps.every((heap) => heap <= LARGEST_HEAP_PLAYED);
+  return [
+    outcomeOf(answer),
+    ` It is ${odd ? "odd" : "even"}, of weight ${weight}, ${ruling}. `,
+    isPlayable && make("a", {href: playAddress(wholeName(whole.code), heaps)}, "Play it"),
+  ];
+}
