@@ -20,8 +20,8 @@ export const TERMS = {
   "Relations": "Equations between products of the generators, from which all equations between products follow.",
   "Components": "An archimedean component: the elements of which one idempotent is a power.",
   "No finite quotient":
-      "There are infinitely many positions, any two of which are told apart by a third: beside it one of them is P " +
-      "and the other N. So they are infinitely many classes, for which no finite monoid has room.",
+      "There are infinitely many positions that are pairwise distinguishable: beside some third position one of two " +
+      "is P and the other N. So they are infinitely many classes, for which no finite monoid has room.",
   "Heaps":
       "The certificate speaks of the positions of these heaps alone. No move from one of them leads to another heap.",
   "Monoid": "Each heap has an element of it, and a position the product. Besides, a position has two counts a track.",

@@ -3,6 +3,7 @@
 import {make} from "../dom.js";
 import {Oracle} from "../oracle.js";
 import {isNo, told} from "../refusals.js";
+import {timeTold} from "../times.js";
 
 /**
  * A sentence that changes once the checker has answered. (The worker that searches is asked, so that nothing waits for
@@ -16,7 +17,7 @@ export function judged({collection, finder}, name) {
     const text = await collection.find(name);
     const oracle = new Oracle(finder, new TextEncoder().encode(text ?? ""));
     if (!(await oracle.isAble())) return "Not checked here: this page’s module has no calls for it.";
-    return `Checked here in ${(await oracle.check()).toFixed(0)} ms.`;
+    return `Checked here in ${timeTold(await oracle.check())}.`;
   };
   const failed = (/** @type {unknown} */ failure) =>
       `${isNo(failure) ? "Refused here" : "Not checked here"}: ${told(failure)}`;

@@ -9,6 +9,7 @@ import {presentInfinite} from "../infinite/present.js";
 import {wordsOf} from "../monoid.js";
 import {Failure} from "../prover.js";
 import {alertOf, isNo, lineTold, toldOfCertificate} from "../refusals.js";
+import {timeTold} from "../times.js";
 import {isWhole} from "../whole/fields.js";
 import {presentWhole} from "../whole/present.js";
 
@@ -54,8 +55,7 @@ export async function present(page, root, bytes, isGame = false) {
     if (verdict.parentNode !== root) return;
     const certificate = fieldsOf(new TextDecoder().decode(bytes));
     verdict.classList.add("yes");
-    const taken = time < 1 ? "less than 1 ms" : `${time.toFixed(0)} ms`;
-    fill(verdict, verdictOf(certificate), make("span", {class: "soft"}, ` (checked here in ${taken})`));
+    fill(verdict, verdictOf(certificate), make("span", {class: "soft"}, ` (checked here in ${timeTold(time)})`));
     await presentGame(page, root, bytes, certificate, verdict, isGame);
   } catch (failure) {
     verdict.classList.add(isNo(failure) ? "no" : "none");

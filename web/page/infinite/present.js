@@ -11,6 +11,7 @@ import {Oracle} from "../oracle.js";
 import {MOST_HEAPS_PLAYED} from "../play/bounds.js";
 import {isNo, lineTold, told, toldOfCertificate} from "../refusals.js";
 import {explained} from "../terms.js";
+import {timeTold} from "../times.js";
 
 import {familyPicture, memberOf, writtenOf} from "./family.js";
 import {heapsTold, infiniteName, infiniteOf, infiniteVerdict} from "./fields.js";
@@ -41,18 +42,13 @@ export async function presentInfinite(page, root, bytes, isGame = false) {
     if (verdict.parentNode !== root) return;
     const certificate = infiniteOf(new TextDecoder().decode(bytes));
     verdict.classList.add("yes");
-    fill(verdict, infiniteVerdict(certificate), make("span", {class: "soft"}, ` (checked here in ${inWords(time)})`));
+    fill(verdict, infiniteVerdict(certificate), make("span", {class: "soft"}, ` (checked here in ${timeTold(time)})`));
     root.append(...sectionsOf(page, oracle, certificate, isGame));
   } catch (failure) {
     verdict.classList.add(isNo(failure) ? "no" : "none");
     const codeOf = () => infiniteOf(new TextDecoder().decode(bytes)).code;
     fill(verdict, toldOfCertificate(failure, codeOf), !kind && lineTold(failure, bytes));
   }
-}
-
-/** @param {number} time */
-function inWords(time) {
-  return time < 1 ? "less than 1 ms" : `${time.toFixed(0)} ms`;
 }
 
 /**

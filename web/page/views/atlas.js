@@ -66,7 +66,7 @@ export async function atlasView(page, root, word) {
 function introductionOf({games, entries, quotients, classes, infinite, whole, tails}) {
   return `The misère quotients of ${games.size} octal and hexadecimal games, by ${entries.length} certificates. ` +
       "In misère play the player who makes the last move loses. " +
-      `There are ${quotients.length} quotients, told apart by the elements of their heaps too, ` +
+      `There are ${quotients.length} quotients, if it counts which heap has which element, ` +
       `and ${classes.size} bipartite monoids up to isomorphism, as a script counted when this page was made. ` +
       `${infinite.size + whole.size} games have no finite quotient, by certificates. Of ${whole.size} of these, and ` +
       `of ${tails.size} that are normal play beyond a heap, each outcome is known all the same.`;

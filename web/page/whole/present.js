@@ -11,6 +11,7 @@ import {outcomesOfPairs} from "../pictures/outcomes.js";
 import {LARGEST_HEAP_PLAYED, MOST_HEAPS_PLAYED} from "../play/bounds.js";
 import {USUAL_HEAPS} from "../play/reading.js";
 import {isNo, lineTold, toldOfCertificate} from "../refusals.js";
+import {timeTold} from "../times.js";
 
 import {tripleOf, wholeName, wholeOf, wholeVerdict} from "./fields.js";
 import {tripleSection} from "./table.js";
@@ -38,9 +39,8 @@ export async function presentWhole(page, root, bytes, isGame = false) {
     if (!(await oracle.isAble())) return showUnchecked(root, verdict, whole);
     const time = await oracle.check();
     if (verdict.parentNode !== root) return;
-    const taken = time < 1 ? "less than 1 ms" : `${time.toFixed(0)} ms`;
     verdict.classList.add("yes");
-    fill(verdict, wholeVerdict(whole), make("span", {class: "soft"}, ` (checked here in ${taken})`));
+    fill(verdict, wholeVerdict(whole), make("span", {class: "soft"}, ` (checked here in ${timeTold(time)})`));
     root.append(...sectionsOf(page, oracle, whole, isGame));
   } catch (failure) {
     verdict.classList.add(isNo(failure) ? "no" : "none");

@@ -8,9 +8,9 @@ export function wholeTheorem(code) {
   return [
     explained("No finite quotient"),
     `, and yet the outcome of each position of ${code} is known, of any number of heaps of any size. Each heap has a ` +
-        "parity, a weight and a lead. One ",
+        "parity, a weight and a lead. A heap ",
     explained("Rules", "rules"),
-    " all others if they weigh less than its lead. Let S be the weight of all heaps. A position is P exactly if",
+    " the others if together they weigh less than its lead. Let S be the weight of all heaps. A position is P exactly if",
     make(
         "ul", {}, make("li", {}, "S = 0, and the number of odd heaps is odd;"),
         make("li", {}, "or S is even and above 0, the number of odd heaps is even, and no heap rules;"),
@@ -19,6 +19,6 @@ export function wholeTheorem(code) {
 }
 
 export const QUOTIENT =
-    "A position has the sum of the parities, the sum of the weights, and a lead: each heap’s lead is less by the " +
-    "weight beside it, never below 0, and the greatest one stays. Two positions are indistinguishable exactly if " +
-    "these three are equal. So the misère quotient is infinite, and no finite monoid is one.";
+    "A position is odd if the number of its odd heaps is, and its weight is the sum of theirs. Its lead is the " +
+    "greatest of its heaps’ leads, each less the weight of the other heaps, and never below 0. Two positions are " +
+    "indistinguishable exactly if these three are the same. The misère quotient is infinite, and no finite monoid is it.";
