@@ -16,7 +16,7 @@ use Rattle.text_faults.specs.Faults.IsFault.{HasNoByte, HasNoEnd, IsUnfinished, 
 use Rattle.text_faults.specs.declared.fault.WrittenFault.{WrittenFault}
 use Rattle.text_faults.specs.declared.fault.WrittenFault.TheVariants.{Empty, NoEnd, Unfinished, Byte, Blank, Space, Name, Other, Words, Rows, Behind}
 use Rattle.text_faults.proofs.Cuts.{cut_same}
-use Rattle.text_faults.proofs.Ends.{EndsIn, ends_behind}
+use Rattle.text_faults.proofs.Ends.{EndsIn, further, after_line}
 use Rattle.text_faults.proofs.Lines.{AreRight, FoundLine, IsRight, line_at}
 use Rattle.text_faults.proofs.Orders.{same_order}
 use Rattle.text_faults.proofs.Words.{IsTidy, IsWord, all_words, code_word, count_line, key_word, line_bytes, named, no_strange, not_blank, not_stray, number_word}
@@ -227,14 +227,16 @@ module _ (b : List ℕ) (c : Certificate) (s : SpellsByLines b c) where
     ),
   )
 
-  ends : EndsIn (codes "end\n") b
+  ends : EndsIn (codes "\nend\n") b
   ends =
       let last : text (s.end ∷ []) ≡ codes "end\n" =
       rw (s.is_end.named, no_words s.end.words s.is_end.worded) refl in
-      let e = ends_behind (codes "end\n") (s.version ∷ s.code ∷ s.order ∷ s.start ∷ s.period
+      let e = further (codes "\nend\n") s.version.name _
+      (further (codes "\nend\n") (spaced s.version.words) _
+      (after_line (codes "\nend\n") (s.code ∷ s.order ∷ s.start ∷ s.period
       ∷ s.phi ∷ s.portion ∷ s.words ∷ []) (s.rows ++ (s.apart ++ s.end ∷ []))
-      (ends_behind (codes "end\n") s.rows (s.apart ++ s.end ∷ [])
-      (ends_behind (codes "end\n") s.apart (s.end ∷ []) ([], last))) in
+      (after_line (codes "\nend\n") s.rows (s.apart ++ s.end ∷ [])
+      (after_line (codes "\nend\n") s.apart (s.end ∷ []) ([], ap (λ (t : List ℕ). 10 ∷ t) last))))) in
       (e.0, s.bytes ∙ e.1)
 
   -- the line of this number
@@ -323,7 +325,7 @@ refused b f c (HasNoByte none) s =
     not_blank s.version (all_right b c s).0.tidy _ (sym s.bytes ∙ none)
 refused b f c (HasNoEnd none) s =
     let e = ends b c s in
-    none (e.0 ++ codes "end") (e.1 ∙ sym (append_assoc e.0 (codes "end") (codes "\n")))
+    none (e.0 ++ codes "\nend") (e.1 ∙ sym (append_assoc e.0 (codes "\nend") (codes "\n")))
 refused b f c (IsUnfinished none) s = let e = ends b c s in none e.0 e.1
 refused b f c (InLine h) s =
     line_refused c h.order h.number h.line h.rest

@@ -116,7 +116,7 @@ pub record LineHasFault (bytes : List ℕ) (fault : WrittenFault) : Type 0 where
 pub data IsFault (bytes : List ℕ) : WrittenFault → Type 0 where
   HasNoByte : bytes ≡ [] → IsFault bytes Empty
   HasNoEnd : ((x : List ℕ) → bytes ≢ x ++ codes "\n") → IsFault bytes NoEnd
-  IsUnfinished : ((x : List ℕ) → bytes ≢ x ++ codes "end\n") → IsFault bytes Unfinished
+  IsUnfinished : ((x : List ℕ) → bytes ≢ x ++ codes "\nend\n") → IsFault bytes Unfinished
   InLine : {fault : WrittenFault} → LineHasFault bytes fault → IsFault bytes fault
 
 -- ---- texts without faults
@@ -146,4 +146,4 @@ ArePlain bytes = (number : ℕ) (line rest : List ℕ) → HasLine bytes number 
 -- The text has none of these faults, and ends with its line `end`.
 pub record IsPlainText (bytes : List ℕ) : Type 0 where
   pub lines : ArePlain bytes
-  pub end : (x : List ℕ) × (bytes ≡ x ++ codes "end\n")
+  pub end : (x : List ℕ) × (bytes ≡ x ++ codes "\nend\n")

@@ -7,7 +7,7 @@ pub enum WrittenFault {
     Empty,
     /// No line end stands at its end.
     NoEnd,
-    /// Its last line isn't `end`.
+    /// Its last line isn't `end`, or it has no other.
     Unfinished,
     /// The line has this byte, which no text has.
     Byte {

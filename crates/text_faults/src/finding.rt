@@ -41,7 +41,7 @@ pub fn text_fault(bytes: &[u8]) -> Option<WrittenFault>
     if !bytes.ends_with(b"\n") {
         return Some(WrittenFault::NoEnd);
     }
-    if !bytes.ends_with(b"end\n") {
+    if !bytes.ends_with(b"\nend\n") {
         return Some(WrittenFault::Unfinished);
     }
     None

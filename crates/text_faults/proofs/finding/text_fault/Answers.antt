@@ -23,7 +23,7 @@ returns-then-not-ends_with c =
 pub returns-then-not-ends_with-2 : goal.returns-then-not-ends_with-2
 returns-then-not-ends_with-2 c =
     IsUnfinished (λ x e.
-    let ends = (ends_is Decides-eqb c.args.bytes.now (codes "end\n") c.ends_with-2.result
+    let ends = (ends_is Decides-eqb c.args.bytes.now (codes "\nend\n") c.ends_with-2.result
     c.ends_with-2.ensures.value).1 x e in
     let not = c.if-not-ends_with-2.true in
     absurd cc)
@@ -32,8 +32,8 @@ pub returns : goal.returns
 returns c = record {
   lines = c.in_default.ensures;
   end = (
-    take (length c.args.bytes.now - 4) c.args.bytes.now,
-    (ends_is Decides-eqb c.args.bytes.now (codes "end\n") c.ends_with-2.result
+    take (length c.args.bytes.now - 5) c.args.bytes.now,
+    (ends_is Decides-eqb c.args.bytes.now (codes "\nend\n") c.ends_with-2.result
         c.ends_with-2.ensures.value).0 c.if-not-ends_with-2.false,
   );
 }
