@@ -9,6 +9,8 @@
  * speak
  * @property {number} period 0 for a partial one
  * @property {number[]} phi the elements of the heaps 1, 2, ..
+ * @property {string[]} keys of each element but the identity an earlier one and a heap, such as `3:5`, whose product it
+ * is
  * @property {Set<number>} portion
  * @property {number[][]} table the products, made when they are first asked for
  */
@@ -32,10 +34,11 @@ export function fieldsOf(text) {
     start,
     period,
     phi,
+    keys: words("words"),
     portion: new Set(numbers("portion")),
     get table() {
       const rows = () => lines.filter(([first]) => first === "row").map(([, ...row]) => row.map(Number));
-      return table ??= allRows(order, phi, words("words"), rows());
+      return table ??= allRows(order, phi, this.keys, rows());
     }
   };
 }

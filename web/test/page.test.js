@@ -17,6 +17,8 @@ import {codeOfName, GAME_NAMES, isCode} from "../page/codes.js";
 import {Collection} from "../page/collection.js";
 import {describedOf} from "../page/description.js";
 import {AIMS, soughtOf, soughtWord} from "../page/find/plan.js";
+import {thirdOf} from "../page/game/compare.js";
+import {otherWins} from "../page/game/wins.js";
 import {memberOf, writtenOf} from "../page/infinite/family.js";
 import {infiniteName, infiniteOf, infiniteVerdict, isInfinite, speaksOf} from "../page/infinite/fields.js";
 import {readingOf} from "../page/play/reading.js";
@@ -221,6 +223,42 @@ test("a row is told by its numbers", () => {
   assert.deepEqual(
       {start, period, last_heap, infinite_to}, {start: null, period: null, last_heap: 33, infinite_to: 34});
   assert.deepEqual([listedOf(listed("code=0.26"))[0].whole, listedOf(listed("code=0.561"))[0].normal_above], [true, 6]);
+});
+
+test("two elements are distinguished by the position of the separator that the certificate has", () => {
+  for (const name of ["0.33", "0.77", "0.75_heaps_8", "0.b"]) {
+    const certificate = fieldsOf(sample(name).toString()), {order, phi, table, portion, text} = certificate;
+    const apart = (text.match(/^apart (.*)$/m)?.[1] ?? "").split(" ").map(Number);
+    const pairs = table.flatMap((_, x) => Array.from({length: order - 1 - x}, (_, at) => [x, x + 1 + at]));
+    pairs.forEach(([x, y], at) => {
+      const element = thirdOf(certificate, x, y).reduce((product, heap) => table[product][phi[heap - 1]], 0);
+      assert.equal(element, apart[at], `${name}: ${x} and ${y}`);
+      assert.notEqual(portion.has(table[x][element]), portion.has(table[y][element]));
+    });
+  }
+});
+
+/**
+ * Found by hand: in 0.33 a heap is worth its size modulo 3.
+ * @type {[bigint[], bigint[], string][]}
+ */
+const WINS = [
+  [[2n, 3n], [2n, 1n], " Also by 3 → 2."],
+  [[5n], [5n, 4n], " No other move wins."],
+  [[2n, 2n, 2n], [2n], " No other move wins."],
+  [[5n, 5n, 2n, 2n, 2n], [2n], " Also by 5 → 3."],
+  // (of so large a heap the page makes no list)
+  [[10n ** 17n], [10n ** 17n], ""],
+];
+
+test("all winning moves are told, of positions with few moves", async () => {
+  const outcomesOf = async (/** @type {number[][]} */ positions) =>
+      Uint32Array.from(positions, (heaps) => Number(outcomeByPlays("0.33", heaps) === "N"));
+  for (const [heaps, [heap, ...left], wanted] of WINS) {
+    const answer = /** @type {const} */ ({kind: "wins", heap, left});
+    assert.equal(await otherWins("0.33", heaps, answer, outcomesOf), wanted, String(heaps));
+  }
+  assert.equal(await otherWins("0.33", [3n], {kind: "lost"}, outcomesOf), "");
 });
 
 test("a name is that of a code", () => {

@@ -8,6 +8,8 @@ import {LARGEST_HEAP_PLAYED, MOST_HEAPS_PLAYED} from "../play/bounds.js";
 import {arrowOf, heapsOfText} from "../positions.js";
 import {told} from "../refusals.js";
 
+import {otherWins} from "./wins.js";
+
 /** @typedef {import("./present.js").Game} Game */
 /** @typedef {import("../main.js").Page} Page */
 
@@ -55,16 +57,49 @@ export function askForm(label, usual, saidOf) {
 }
 
 /**
+ * Two fields for positions, and what is answered of both.
+ * @param {[string, string]} usual the positions that stand there at first
+ * @param {(one: bigint[], other: bigint[]) => Promise<import("../dom.js").Child[]>} saidOf
+ */
+export function compareForm([one, other], saidOf) {
+  const fields = [["one", one], ["other", other]].map(
+      ([id, value]) => make("input", {id, value, autocomplete: "off", inputmode: "text"}));
+  const answer = make("p", {class: "verdict", role: "status", id: "compared"});
+  const compare = async () => {
+    const [x, y] = fields.map((it) => heapsOfText(it.value));
+    answer.className = "verdict";
+    try {
+      fill(answer, ...(x && y ? await saidOf(x, y) : [NO_POSITION]));
+    } catch (failure) {
+      answer.classList.add("none");
+      fill(answer, told(failure));
+    }
+  };
+  const onsubmit = (/** @type {Event} */ event) => {
+    event.preventDefault();
+    return compare();
+  };
+  compare();
+  const named = [labelled("One position", fields[0]), labelled("another one", fields[1])];
+  return make(
+      "section", {class: "screen"}, make("h2", {}, "Compare two positions"),
+      make("form", {class: "row", onsubmit}, named, make("button", {}, "Distinguishable?")), answer);
+}
+
+/**
  * @param {Page} page
  * @param {Game} game
  * @param {bigint[]} heaps
  */
-async function saidOf(page, {name, bytes, words}, heaps) {
-  const {answer} = await page.prover.ask("answer", bytes, heaps);
-  const {answer: element} = await page.prover.ask("value", bytes, heaps);
+async function saidOf({prover}, {name, bytes, certificate, words}, heaps) {
+  const {answer} = await prover.ask("answer", bytes, heaps);
+  const {answer: element} = await prover.ask("value", bytes, heaps);
+  const outcomesOf = async (/** @type {number[][]} */ positions) =>
+      (await prover.ask("outcomes", bytes, positions)).answer;
   const isPlayable = heaps.length <= MOST_HEAPS_PLAYED && heaps.every((heap) => heap <= LARGEST_HEAP_PLAYED);
   return [
     outcomeOf(answer),
+    await otherWins(certificate.code, heaps, answer, outcomesOf),
     " Its element is ",
     word(words[element]),
     ". ",

@@ -15,6 +15,7 @@ import {presentWhole} from "../whole/present.js";
 
 import {askSection} from "./ask.js";
 import {certificateSection} from "./certificate_section.js";
+import {compareSection} from "./compare.js";
 import {heapSection} from "./heaps.js";
 import {kindNote} from "./kind_note.js";
 import {linksOf} from "./links.js";
@@ -132,6 +133,7 @@ function sectionsOf(page, game, isGame) {
     quotientSection(game),
     heapSection(game),
     askSection(page, game),
+    compareSection(page, game),
     pictureSection(page, game),
     relativesSection(page, game) ?? "",
     certificateSection(page, game),

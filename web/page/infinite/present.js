@@ -7,6 +7,7 @@ import {infiniteSection} from "../game/certificate_section.js";
 import {kindNote} from "../game/kind_note.js";
 import {linksOf} from "../game/links.js";
 import {ruleSection} from "../game/quotient.js";
+import {otherWins} from "../game/wins.js";
 import {Oracle} from "../oracle.js";
 import {MOST_HEAPS_PLAYED} from "../play/bounds.js";
 import {isNo, lineTold, told, toldOfCertificate} from "../refusals.js";
@@ -135,7 +136,8 @@ function askSection(oracle, name, certificate) {
   const saidOf = async (/** @type {bigint[]} */ heaps) => {
     const answer = await oracle.answer(heaps);
     const isPlayable = heaps.length <= MOST_HEAPS_PLAYED;
-    return [outcomeOf(answer), " ", isPlayable && make("a", {href: playAddress(name, heaps)}, "Play it")];
+    const others = await otherWins(certificate.code, heaps, answer, (positions) => oracle.outcomes(positions));
+    return [outcomeOf(answer), others, " ", isPlayable && make("a", {href: playAddress(name, heaps)}, "Play it")];
   };
   const label = `Heaps, of ${heapsTold(certificate).replace("the heaps ", "")}`;
   return askForm(label, usual.join(" "), saidOf);

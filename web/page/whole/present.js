@@ -2,10 +2,11 @@
 
 import {playAddress} from "../address.js";
 import {fill, make} from "../dom.js";
-import {askForm, outcomeOf} from "../game/ask.js";
+import {askForm, compareForm, outcomeOf} from "../game/ask.js";
 import {wholeSection} from "../game/certificate_section.js";
 import {linksOf} from "../game/links.js";
 import {ruleSection} from "../game/quotient.js";
+import {otherWins} from "../game/wins.js";
 import {Oracle} from "../oracle.js";
 import {outcomesOfPairs} from "../pictures/outcomes.js";
 import {LARGEST_HEAP_PLAYED, MOST_HEAPS_PLAYED} from "../play/bounds.js";
@@ -78,6 +79,7 @@ function sectionsOf(page, oracle, whole, isGame) {
     tripleSection(whole),
     make("section", {}, make("h2", {}, "The quotient"), make("p", {}, QUOTIENT)),
     askForm("Heaps, of any size", "2 3 1000000000000", (heaps) => saidOf(oracle, whole, heaps)),
+    compareForm(["3 9", "11"], async (one, other) => comparedOf(whole, one, other)),
     make("section", {}, make("h2", {}, "Pictures"), make("div", {class: "pictures"}, pairs)),
     wholeSection(whole),
   ];
@@ -93,12 +95,27 @@ const MOST_DRAWN = 63;
  */
 async function saidOf(oracle, whole, heaps) {
   const answer = await oracle.answer(heaps);
-  const {odd, weight, lead} = tripleOf(whole, heaps);
-  const ruling = lead ? `lead ${lead}` : "no heap rules";
   const isPlayable = heaps.length <= MOST_HEAPS_PLAYED && heaps.every((heap) => heap <= LARGEST_HEAP_PLAYED);
   return [
     outcomeOf(answer),
-    ` It is ${odd ? "odd" : "even"}, of weight ${weight}, ${ruling}. `,
+    await otherWins(whole.code, heaps, answer, (positions) => oracle.outcomes(positions)),
+    ` It is ${tripleTold(tripleOf(whole, heaps))}. `,
     isPlayable && make("a", {href: playAddress(wholeName(whole.code), heaps)}, "Play it"),
   ];
+}
+
+/** @param {import("./fields.js").Triple} triple */
+function tripleTold({odd, weight, lead}) {
+  return `${odd ? "odd" : "even"}, of weight ${weight}, ${lead ? `of lead ${lead}` : "and no heap rules"}`;
+}
+
+/**
+ * Whether two positions are indistinguishable, which is so exactly if their triples are the same.
+ * @param {Whole} whole
+ * @param {bigint[]} one
+ * @param {bigint[]} other
+ */
+function comparedOf(whole, one, other) {
+  const [x, y] = [one, other].map((heaps) => tripleTold(tripleOf(whole, heaps)));
+  return [x === y ? `Indistinguishable: both are ${x}.` : `Distinguishable: one is ${x}; the other is ${y}.`];
 }

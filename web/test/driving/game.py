@@ -1,5 +1,6 @@
 """The page of a game."""
 import pathlib
+import re
 import tempfile
 
 from selenium.webdriver.common.keys import Keys
@@ -51,7 +52,25 @@ def asks(it, program, steps):
         wanted = program.move("0.77", position)
         holds = "P: lost" in told if wanted == "lost" else f"won by {wanted}." in told
         steps.expect(f"who wins {position}", holds, told)
+    compares(it, program, steps)
     explains(it, steps)
+
+
+def compares(it, program, steps):
+    """Two positions, with a third one beside which the program finds what is told."""
+    for one, other in (("3 5", "4 4"), ("1", "1 1 1"), ("2 1000000000000", "7"), ("", "1 1")):
+        it.write("#one", one or "0")
+        it.run("document.querySelector('#compared').textContent = ''")
+        it.write("#other", other + Keys.ENTER)
+        told = it.said("#compared", "ndistinguishable", "istinguishable: ", "no ", "No ")
+        found = re.match(r"Distinguishable: (?:beside ([\d +]+) )?one is ([PN]) and the other ([PN])\.", told)
+        if not found:
+            steps.expect(f"{one} and {other}", told.startswith("Indistinguishable: both have the element "), told)
+            continue
+        third = (found[1] or "").replace("+ ", "")
+        moves = [program.move("0.77", " ".join(f"{it} {third}".split()) or "0") for it in (one, other)]
+        seen = ["P" if it == "lost" else "N" for it in moves]
+        steps.expect(f"{one} and {other}", seen == [found[2], found[3]] and seen[0] != seen[1], told)
 
 
 def answered(it, position):
