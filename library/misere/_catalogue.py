@@ -71,19 +71,14 @@ class Catalogue(_Kept[Quotient]):
     atlas. A certificate is checked when its quotient is asked for, and nothing is believed of the file.
 
     catalogue["0.77"] is the quotient of a code, the full one where there is one, else the partial one of the most heaps;
-    catalogue["Kayles"] that of a name; catalogue["0.07", 24] that of the heaps to 24. Of the atlas a code alone means the
-    entry of octal.json or hexadecimal.json, which the page for browsers shows, and catalogue.furthest("0.07") is the
-    largest part that the atlas has. What isn't there raises Absent, a KeyError."""
+    catalogue["Kayles"] that of a name; catalogue["0.07", 24] that of the heaps to 24. So catalogue["0.07"] is the part to
+    heap 33, as on the page for browsers. What isn't there raises Absent, a KeyError."""
 
     def __init__(self, path: str | os.PathLike[str] | None = None, limit: int = LIMIT) -> None:
         texts: Texts = {}
-        kinds: Kinds = {}
         for file in [pathlib.Path(path)] if path is not None else [_atlas() / name for name in ATLAS]:
-            entries = _entries_of(file)
-            texts.update(entries)
-            for code, heaps in _furthest_of(entries).items():
-                kinds.setdefault(code, heaps)
-        super().__init__(texts, kinds, limit)
+            texts.update(_entries_of(file))
+        super().__init__(texts, _furthest_of(texts), limit)
 
     def __getitem__(self, key: Key) -> Quotient:
         return Quotient(self.certificate(key), self._limit)
