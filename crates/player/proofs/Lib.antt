@@ -1,8 +1,9 @@
-mod Rests
 mod Order
-mod Others
-mod Halves
+mod Tried
+mod Labels
 pub mod Answered
+mod Looked
 mod Few
+mod Fitting
 mod Inside
 mod OneAnswer

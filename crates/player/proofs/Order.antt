@@ -1,5 +1,5 @@
 -- The order of what moves leave, and the options whose smaller part is small.
-use Rattle.std.proofs.Common.{◌≡◌, ℕ, suc, ◌-◌, ◌≤◌, sym, List, [], ◌∷◌, ◌++◌, subst, arith}
+use Rattle.std.proofs.Common.{◌≡◌, ℕ, suc, ◌+◌, ◌≤◌, sym, List, [], ◌∷◌, ◌++◌, subst, arith}
 use Rattle.std.specs.List.{Contains, AllPairs}
 use Rattle.std.specs.List.Sorted.{IsNonDecreasing}
 use Rattle.misere_theory.specs.Games.{HeapOption}
@@ -42,32 +42,30 @@ small_rises code n bound H (LeavesOne j a l p h b) s = in_order (One a) tt
 small_rises code n bound H (LeavesTwo j a b p q h s) w = in_order (Two a b) w.0
 small_rises code n bound H (LeavesThree j a b c p q r h s) w = in_order (Three a b c) (w.0, w.1)
 
-small_up_to : (bound : ℕ) (L : Left) → IsSmallSplit bound (heaps_of L) → IsPartUpTo (bound - 1) L
-small_up_to bound Nothing w = tt
-small_up_to bound (One a) w = tt
-small_up_to bound (Two a b) w = let l = w.1 in omega arith
-small_up_to bound (Three a b c) w =
-    ((let l = w.2 in omega arith), (let l = w.3 in omega arith))
+small_up_to : (most : ℕ) (L : Left) → IsSmallSplit (most + 1) (heaps_of L) → IsPartUpTo most L
+small_up_to most Nothing w = tt
+small_up_to most (One a) w = tt
+small_up_to most (Two a b) w = let l = w.1 in omega arith
+small_up_to most (Three a b c) w = ((let l = w.2 in omega arith), (let l = w.3 in omega arith))
 
 -- and the other way round, where the parts rise
-pub up_to_small : (bound : ℕ) → 1 ≤ bound → (L : Left) → IsInOrder L → IsPartUpTo (bound - 1) L
-    → IsSmallSplit bound (heaps_of L)
-up_to_small bound some Nothing o w = tt
-up_to_small bound some (One a) o w = tt
-up_to_small bound some (Two a b) o w = (o, omega arith)
-up_to_small bound some (Three a b c) o w =
-    (o.0, o.1, let l = w.0 in omega arith, let l = w.1 in omega arith)
+pub up_to_small : (most : ℕ) (L : Left) → IsInOrder L → IsPartUpTo most L
+    → IsSmallSplit (most + 1) (heaps_of L)
+up_to_small most Nothing o w = tt
+up_to_small most (One a) o w = tt
+up_to_small most (Two a b) o w = (o, omega arith)
+up_to_small most (Three a b c) o w = (o.0, o.1, let l = w.0 in omega arith, let l = w.1 in omega arith)
 
 -- an option whose smaller part is small is listed
-pub small_in : (code : List ℕ) (n bound : ℕ) (H : List ℕ) → HeapOption code n H
-    → IsSmallSplit bound H
-    → (L : Left) × Contains (options_up_to code n (bound - 1)) L × (heaps_of L ≡ H)
-small_in code n bound H o w =
+pub small_in : (code : List ℕ) (n most : ℕ) (H : List ℕ) → HeapOption code n H
+    → IsSmallSplit (most + 1) H
+    → (L : Left) × Contains (options_up_to code n most) L × (heaps_of L ≡ H)
+small_in code n most H o w =
     let (L, i, s) = each code n H o in
     let same =
     rising_same (heaps_of L) H (in_order L (only code n n L i).1)
-    (small_rises code n bound H o w) s in (
+    (small_rises code n (most + 1) H o w) s in (
       L,
-      (cut code n (bound - 1) L).1 (i, small_up_to bound L (subst (IsSmallSplit bound) (sym same) w)),
+      (cut code n most L).1 (i, small_up_to most L (subst (IsSmallSplit (most + 1)) (sym same) w)),
       same,
     )

@@ -1,3 +1,4 @@
 pub mod Looks
 pub mod Wins
+pub mod Labels
 pub mod Answers

@@ -1,13 +1,12 @@
 //! What a player answers in a position.
 ghost use Rattle.std.specs.List.Sorted.{IsNonDecreasing};
-ghost use Rattle.misere_theory.specs.Certificates.{IsHeapOf};
 ghost use Rattle.misere_theory.specs.Games.{IsPosition};
-ghost use Rattle.player.specs.Answers.{IsRightAnswer};
+ghost use Rattle.positions.specs.Outcomes.{HasOutcome};
+ghost use Rattle.player.specs.Answers.{IsTriedAnswer};
 
+use crate::labelling::Labelling;
 use crate::wins::first_win;
-use answers::Certified;
-use positions::Move;
-use std::alloc::Allocator;
+use positions::{Move, Outcome};
 
 /// What a player answers in a position, when it is his turn.
 #[derive(Clone, Copy, Debug, PartialEq, Eq)]
@@ -16,22 +15,35 @@ pub enum Answer {
     Ended,
     /// The opponent wins, whatever is moved.
     Lost,
-    /// The first of the moves that win.
+    /// A move that wins.
     Wins(Move),
 }
 
-/// The answer in the position of these heaps, which stand rising: as `answer`, of heaps in any
-/// memory. It takes none.
-pub fn answer_at<A: Allocator>(certified: &Certified<A>, heaps: &[u64]) -> Answer
-    requires position { IsPosition (IsHeapOf certified.now) heaps.now }
-    requires rising { IsNonDecreasing heaps.now }
-    ensures { IsRightAnswer certified.now.code heaps.now result }
+/// Who wins from the position of these heaps under misère play, by its label. It takes no memory.
+pub fn outcome_by<L: Labelling>(by: &L, heaps: &[u64]) -> Outcome
+    requires position { IsPosition (L.heap by.now) heaps.now }
+    ensures { HasOutcome (L.code by.now) heaps.now result }
 {
-    if certified.holds(certified.value(heaps)) {
-        return Answer::Lost;
+    if by.is_p(by.label(heaps)) {
+        Outcome::P
+    } else {
+        Outcome::N
     }
-    match first_win(certified, heaps) {
-        Some(made) => Answer::Wins(made),
-        None => Answer::Ended,
+}
+
+/// The answer in the position of these heaps, which rise, by labels: the first of the moves that are
+/// tried and win. Heaps come in the order of their sizes, and of one heap the options in their order.
+/// It takes no memory.
+pub fn answer_by<L: Labelling>(by: &L, heaps: &[u64]) -> Answer
+    requires position { IsPosition (L.heap by.now) heaps.now }
+    requires rising { IsNonDecreasing heaps.now }
+    ensures { IsTriedAnswer (L.code by.now) (L.most by.now) heaps.now result }
+{
+    match outcome_by(by, heaps) {
+        Outcome::P => Answer::Lost,
+        Outcome::N => match first_win(by, heaps) {
+            Some(made) => Answer::Wins(made),
+            None => Answer::Ended,
+        },
     }
 }

@@ -1,13 +1,19 @@
-//! Playing by a quotient: the value and the outcome of a position, and the first winning move.
+//! Playing by labels of positions: the outcome of a position, and the first winning move.
+//!
+//! A `Labelling` gives positions labels by which outcomes are known; the search of winning moves is
+//! written once, over it. The quotient of a certificate is one, whose labels are its elements: its value
+//! and outcome of a position, and the first winning move.
 #![tactic(auto)]
 
 mod answering;
+mod labelling;
 mod laws;
-mod looking;
 mod play;
+mod quotient;
 mod wins;
 
-pub use answering::{Answer, answer_at};
+pub use answering::{Answer, answer_by, outcome_by};
+pub use labelling::{Labelling, MOST_HEAPS};
 pub use laws::{plays_stay_inside, right_answers_are_one};
-pub use play::{answer, fits, looks, outcome, value};
+pub use play::{answer, answer_at, fits, looks, outcome, value};
 pub use positions::{Options as Looks, Outcome};

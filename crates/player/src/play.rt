@@ -1,7 +1,8 @@
 //! What a certified quotient says of positions.
 ghost use Rattle.std.specs.Prelude.{◌≡◌, ◌↔◌, ◌<◌, ◌≤◌, ◌+◌, ◌-◌, ◌*◌, ℕ, List, All, IsTrue, Contains, AllPairs, IsPermutation, length};
-ghost use Rattle.misere_theory.specs.Certificates.{kind_of, claim_of};
-ghost use Rattle.misere_theory.specs.Games.{HeapOption};
+ghost use Rattle.std.specs.List.Sorted.{IsNonDecreasing};
+ghost use Rattle.misere_theory.specs.Certificates.{IsHeapOf, kind_of, claim_of};
+ghost use Rattle.misere_theory.specs.Games.{HeapOption, IsPosition};
 ghost use Rattle.misere_theory.specs.Pairs.{IsSmallSplit};
 ghost use Rattle.misere_theory.specs.Plays.{LeftBefore};
 ghost use Rattle.misere_theory.specs.Quotients.{value};
@@ -12,8 +13,8 @@ ghost use Rattle.heap_options.specs.declared.left.Left.{Left};
 ghost use Rattle.player.specs.Answers.{IsRightAnswer, SpeaksOf};
 ghost use Rattle.player.specs.Looks.{IsFirstInto, most_looks};
 
-use crate::answering::{Answer, answer_at};
-use crate::looking::looks_at;
+use crate::answering::{Answer, answer_by, outcome_by};
+use crate::labelling::Labelling;
 use allocation::SmallAllocator;
 use answers::Certified;
 use positions::{Options, Outcome, Position, options_are_exact};
@@ -65,11 +66,18 @@ pub fn outcome<A: Allocator, B: SmallAllocator>(
     requires fits { SpeaksOf certified.now position.now }
     ensures { HasOutcome certified.now.code position.now result }
 {
-    if certified.holds(certified.value(position.heaps())) {
-        Outcome::P
-    } else {
-        Outcome::N
-    }
+    outcome_by(certified, position.heaps())
+}
+
+/// The answer in the position of these heaps, which rise: as `answer`, of heaps in any memory. It
+/// takes none.
+pub fn answer_at<A: Allocator>(certified: &Certified<A>, heaps: &[u64]) -> Answer
+    requires position { IsPosition (IsHeapOf certified.now) heaps.now }
+    requires rising { IsNonDecreasing heaps.now }
+    ensures { IsRightAnswer certified.now.code heaps.now result }
+{
+    let _ = certified.cert();
+    answer_by(certified, heaps)
 }
 
 /// What to do in the position: nothing where no move exists or none wins, and else the first move
@@ -110,5 +118,6 @@ pub fn looks<A: Allocator>(certified: &Certified<A>, n: u64) -> Options
         → (left : Left) × Contains result left × (heaps_of left ≡ H) }
 {
     options_are_exact();
-    looks_at(certified, n)
+    let _ = certified.cert();
+    certified.tried(n)
 }

@@ -1,7 +1,7 @@
 use Rattle.std.proofs.Common.{◌≡◌, ◌<◌, ◌≤◌, ℕ, List, refl, sym, subst, arith}
 use Rattle.std.specs.List.{All}
 use Rattle.misere_theory.specs.Certificates.{kind_of}
-use Rattle.player.proofs.Rests.{all_fit, small_fit, fit_small}
+use Rattle.player.proofs.Fitting.{all_fit, small_fit, fit_small}
 use Rattle.player.proofs.play.fits.Goals as goal
 
 pub returns-then-last-eq0-clause-fits : goal.returns-then-last-eq0-clause-fits
