@@ -1,5 +1,5 @@
 -- Regions at counts of positions: these are in the plane, and a place beyond all is in no region.
-use Rattle.std.proofs.Common.{◌≡◌, ℕ, zero, suc, ◌+◌, ◌*◌, ◌<◌, ◌≤◌, min, ℤ, pos, nat_abs, int_lt, not, ◌&&◌, ◌||◌, Bool, true, false, List, [], ◌∷◌, ◌++◌, length, map, take, drop, get_or, refl, sym, ◌∙◌, ap, ap₂, arith}
+use Rattle.std.proofs.Common.{◌≡◌, ℕ, zero, suc, ◌+◌, ◌*◌, ◌<◌, ◌≤◌, min, ℤ, pos, nat_abs, int_lt, not, ◌&&◌, ◌||◌, Bool, true, false, List, [], ◌∷◌, length, map, take, drop, get_or, refl, sym, ◌∙◌, ap, ap₂, arith}
 use Rattle.std.proofs.Math.ListN.{get_or-eq_default}
 use Rattle.std.proofs.Math.Seq.{drop-cons}
 use Rattle.std.proofs.lemmas.Int.{ints}
@@ -10,7 +10,6 @@ use Rattle.counted_claims.specs.Folds.{Fold, weights_on, folded, in_plane, is_si
 use Rattle.std.specs.List.{zip}
 use Rattle.counted_claims.specs.Tracked.{TrackLine, track_of, places_before, place_number, all_place_count}
 use Rattle.infinite_player.proofs.Folded.{sum_stops, product_stops}
-use Rattle.counted_claims.proofs.Vectors.{weighed-append}
 use Rattle.counted_claims.proofs.Distances.{lt_is_false}
 use Rattle.tracked_claims.specs.Fields.{Fields, pieces, tracks_in}
 use Rattle.tracked_claims.specs.Reads.{claim_in, weight_in, is_inside}
@@ -88,14 +87,6 @@ inside_stops t f z most h =
           get_or-eq_default piece false (omega arith)
           ∙ sym (get_or-eq_default piece false (omega arith))
     ]
-
--- the sum of the weights of three lists of heaps
-pub three_sums : (w : ℕ → ℤ) (X Y Z : List ℕ) (a b c : ℕ) → pos a ≡ weighed w X
-    → pos b ≡ weighed w Y → pos c ≡ weighed w Z → pos (a + (b + c)) ≡ weighed w (X ++ (Y ++ Z))
-three_sums w X Y Z a b c d e f =
-    let p = weighed-append w X (Y ++ Z) in
-    let q = weighed-append w Y Z in
-    omega (arith, ints)
 
 -- the number of a place on tracks, one track more
 pub numbers_stop : (t : Fields) (X : List ℕ) (most : ℕ) (a : Fold) (fs gs : List Fold)

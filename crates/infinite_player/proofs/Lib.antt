@@ -1,5 +1,4 @@
 mod Folded
 mod InPlane
-mod Options
-mod Winning
 mod Inside
+mod Labelled

@@ -3,11 +3,10 @@
 
 mod counting;
 mod laws;
-mod looking;
 mod places;
 mod play;
 mod regions;
-mod wins;
+mod tracks;
 
 pub use laws::plays_stay_inside;
 pub use play::{answer, answer_at, fits, outcome, outcome_at, speaks_of};

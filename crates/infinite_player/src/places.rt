@@ -32,22 +32,6 @@ fn rest(top: u32, modulus: u32, x: u128) -> u32
     least + ((x - least as u128) % modulus as u128) as u32
 }
 
-/// The down of the place of two counts.
-fn place_down(a: &Fold, x: u128, y: u128) -> u32
-    requires { IsFold a.now }
-    ensures { result ≡ nat_abs (place_down a.now (pos x) (pos y)) }
-{
-    rest(a.top_down, a.modulus, x - taken(a, x, y))
-}
-
-/// The up of the place of two counts.
-fn place_up(a: &Fold, x: u128, y: u128) -> u32
-    requires { IsFold a.now }
-    ensures { result ≡ nat_abs (place_up a.now (pos x) (pos y)) }
-{
-    rest(a.top_up, a.modulus, y - taken(a, x, y))
-}
-
 /// How many places a track has before those of this down.
 fn places_before(a: &Fold, down: u64) -> u64
     ensures { result ≡ min (places_before a.now down) 18446744073709551615 }
@@ -83,7 +67,8 @@ pub(crate) fn first_number(a: &Fold, x: u128, y: u128) -> u64
     ensures { result ≡ min (places_before a.now (nat_abs (place_down a.now (pos x) (pos y)))
         + nat_abs (place_up a.now (pos x) (pos y))) 18446744073709551615 }
 {
-    let down = place_down(a, x, y) as u64;
-    let up = place_up(a, x, y) as u64;
-    places_before(a, down).saturating_add(up)
+    let steps = taken(a, x, y);
+    let down = rest(a.top_down, a.modulus, x - steps);
+    let up = rest(a.top_up, a.modulus, y - steps);
+    places_before(a, down as u64).saturating_add(up as u64)
 }

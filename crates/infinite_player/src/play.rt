@@ -6,13 +6,10 @@ ghost use Rattle.player.specs.Answers.{IsRightAnswer};
 ghost use Rattle.tracked_claims.specs.Reads.{claim_in};
 ghost use Rattle.infinite_player.specs.Plays.{SpeaksOf};
 
-use crate::counting::{Parts, element_onto};
-use crate::laws::kept_are_accepted;
-use crate::regions::is_p;
-use crate::wins::first_win;
+use crate::tracks::ByTracks;
 use allocation::SmallAllocator;
 use infinite_answers::Infinite;
-use player::Answer;
+use player::{Answer, answer_by, outcome_by};
 use positions::{Outcome, Position};
 use std::alloc::Allocator;
 use tracked_claims::Tracked;
@@ -44,18 +41,7 @@ pub fn outcome_at<A: Allocator>(shown: &Infinite<A>, heaps: &[u64]) -> Outcome
     requires fits { SpeaksOf shown.now heaps.now }
     ensures { HasOutcome shown.now.claim.code heaps.now result }
 {
-    kept_are_accepted();
-    let claim = shown.claim();
-    let parts = Parts {
-        left: &[],
-        before: heaps,
-        behind: &[],
-    };
-    if is_p(claim, element_onto(claim, heaps, 0), &parts) {
-        Outcome::P
-    } else {
-        Outcome::N
-    }
+    outcome_by(&ByTracks { shown }, heaps)
 }
 
 /// Who wins from the position under misère play. It takes no memory. Asks that the certificate
@@ -77,13 +63,7 @@ pub fn answer_at<A: Allocator>(shown: &Infinite<A>, heaps: &[u64]) -> Answer
     requires rising { IsNonDecreasing heaps.now }
     ensures { IsRightAnswer shown.now.claim.code heaps.now result }
 {
-    match outcome_at(shown, heaps) {
-        Outcome::P => Answer::Lost,
-        Outcome::N => match first_win(shown, heaps) {
-            Some(made) => Answer::Wins(made),
-            None => Answer::Ended,
-        },
-    }
+    answer_by(&ByTracks { shown }, heaps)
 }
 
 /// What to do in the position: nothing if no move exists or none wins, and else the first move that

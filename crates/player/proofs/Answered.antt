@@ -1,7 +1,6 @@
 -- Each answer is right where it is given.
-use Rattle.std.proofs.Common.{◌≡◌, ℕ, inl, inr, List, refl, ap, subst}
-use Rattle.misere_theory.specs.Games.{Move, IsP, IsN}
-use Rattle.misere_theory.specs.Games.IsP.{AllLose}
+use Rattle.std.proofs.Common.{ℕ, inl, inr, List, refl, ap, subst}
+use Rattle.misere_theory.specs.Games.{Move, IsN}
 use Rattle.misere_theory.specs.Plays.{IsWinningMove}
 use Rattle.misere_theory.proofs.Outcomes.{not_both}
 use Rattle.misere_theory.proofs.Shuffles.{move_from_multiset}
@@ -18,16 +17,6 @@ made_of d Lost = d
 made_of d (Wins m) = m
 
 module _ (is_first : ℕ → List ℕ → Type 0) (code X : List ℕ) where
-  pub lost_right : IsP code X → IsAnswerBy is_first code X Lost
-  lost_right p = record {
-    ended = (λ e. absurd (cc), λ none. absurd (some_move p none));
-    lost = (λ e. p, λ q. refl);
-    wins = λ m e. absurd (cc);
-  }
-    where
-      some_move : IsP code X → ((Y : List ℕ) → Move code X Y → ⊥) → ⊥
-      some_move (AllLose m h) none = none _ m
-
   pub wins_right : (m : MoveMade) → IsWinningMove code X m.heap (heaps_of m.left)
       → is_first m.heap (heaps_of m.left) → IsAnswerBy is_first code X (Wins m)
   unfolding made_of

@@ -11,7 +11,6 @@ use Rattle.heap_options.specs.Exact.{heaps_of}
 use Rattle.heap_options.specs.declared.left.Left.{Left}
 use Rattle.heap_options.specs.declared.left.Left.TheVariants.{Nothing, One, Two, Three}
 use Rattle.misere_theory.proofs.Shuffles.{from_permutation, p_shuffled}
-use Rattle.player.specs.Labels.{HasLabel}
 use Rattle.player.specs.Wins.{other_heaps}
 
 -- heaps put between others

@@ -1,10 +1,10 @@
 -- The options that a player looks at, and winning moves among them.
-use Rattle.std.proofs.Common.{◌≡◌, ℕ, ◌+◌, ◌-◌, ◌<◌, ◌≤◌, ◌⊎◌, inl, inr, List, ◌++◌, length, sym, ◌∙◌, ap, ap₂, subst, arith, eq-zero-or-pos, true}
+use Rattle.std.proofs.Common.{◌≡◌, ℕ, ◌+◌, ◌-◌, ◌<◌, ◌≤◌, ◌⊎◌, inl, inr, List, ◌++◌, length, sym, ◌∙◌, ap, ap₂, subst, arith, eq-zero-or-pos}
 use Rattle.std.specs.List.{Contains}
 use Rattle.std.specs.List.Sorted.{IsNonDecreasing}
 use Rattle.std.proofs.lemmas.List.Sorted.{IsPermutation-refl}
-use Rattle.misere_theory.specs.Certificates.{Certificate, InRanges, kind_of, IsHeapOf, Accepted, claim_of}
-use Rattle.misere_theory.specs.Games.{HeapOption, HeapMove, IsPosition, IsP}
+use Rattle.misere_theory.specs.Certificates.{Certificate, kind_of, IsHeapOf, Accepted, claim_of}
+use Rattle.misere_theory.specs.Games.{HeapOption, IsPosition, IsP}
 use Rattle.misere_theory.specs.Kinds.{IsPeriodicIn}
 use Rattle.misere_theory.specs.Pairs.{IsSmallSplit}
 use Rattle.misere_theory.specs.Parts.{IsPart}
@@ -20,7 +20,7 @@ use Rattle.heap_options.specs.Options.{options_up_to}
 use Rattle.heap_options.specs.Exact.{heaps_of}
 use Rattle.heap_options.specs.declared.left.Left.{Left}
 use Rattle.heap_options.proofs.OptionLaws.{only, cut}
-use Rattle.player.specs.Looks.{puts, IsFirstInto}
+use Rattle.player.specs.Looks.{IsFirstInto}
 use Rattle.player.specs.Wins.{IsTriedWin, IsFirstTried}
 use Rattle.player.proofs.Order.{before_trans, small_in, in_order, up_to_small}
 

@@ -1,5 +1,5 @@
 -- The order of what moves leave, and the options whose smaller part is small.
-use Rattle.std.proofs.Common.{◌≡◌, ℕ, suc, ◌+◌, ◌≤◌, sym, List, [], ◌∷◌, ◌++◌, subst, arith}
+use Rattle.std.proofs.Common.{◌≡◌, ℕ, suc, ◌+◌, sym, List, [], ◌∷◌, ◌++◌, subst, arith}
 use Rattle.std.specs.List.{Contains, AllPairs}
 use Rattle.std.specs.List.Sorted.{IsNonDecreasing}
 use Rattle.misere_theory.specs.Games.{HeapOption}

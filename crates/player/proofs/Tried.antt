@@ -1,5 +1,5 @@
 -- Winning moves among the options that are tried.
-use Rattle.std.proofs.Common.{◌≡◌, ℕ, suc, ◌+◌, ◌-◌, ◌<◌, ◌≤◌, inl, inr, List, [], ◌∷◌, ◌++◌, length, get_or, sym, ◌∙◌, ap, subst, arith}
+use Rattle.std.proofs.Common.{◌≡◌, ℕ, ◌+◌, ◌-◌, ◌<◌, ◌≤◌, inl, inr, List, [], ◌∷◌, ◌++◌, length, get_or, sym, ◌∙◌, subst, arith}
 use Rattle.std.specs.List.{Contains, AllPairs, remove}
 use Rattle.std.specs.List.Sorted.{IsNonDecreasing}
 use Rattle.std.proofs.lemmas.List.Elements.{All-from_recursion, Contains-append_left, Contains-append_right, Contains-append_cases}
@@ -8,7 +8,7 @@ use Rattle.std.proofs.lemmas.List.{get_or_default}
 use native.Mathlib.Decide.{dec_lt}
 use Rattle.misere_theory.specs.Games.{HeapOption, HeapMove, IsPosition, IsP}
 use Rattle.misere_theory.specs.Parts.{IsPart}
-use Rattle.misere_theory.specs.Plays.{LeftBefore, IsWinningMove}
+use Rattle.misere_theory.specs.Plays.{LeftBefore}
 use Rattle.misere_theory.proofs.ListLaws.{only_in, itself_in}
 use Rattle.misere_theory.proofs.Wins.{winning_leads}
 use Rattle.heap_options.specs.Options.{options_up_to}

@@ -9,7 +9,7 @@ ghost use Rattle.player.specs.Wins.{IsTriedWin};
 use positions::Options;
 
 /// The most heaps of which labels are asked: as many as a list in memory has, and what a move leaves.
-pub const MOST_HEAPS: u128 = 18_446_744_073_709_551_620;
+pub const LONGEST_POSITION: u128 = 18_446_744_073_709_551_620;
 
 /// Gives each position a label, the product of its heaps' labels, by which its outcome is known: a claim
 /// over labels that is right. An element of a finite quotient is one, and so is an element beside counts.
@@ -43,7 +43,7 @@ pub trait Labelling {
     /// Whether positions with the label are P.
     fn is_p(&self, x: Self::Label) -> bool
         requires { (X : List ℕ) × labels self.now X x }
-        ensures { (X : List ℕ) → labels self.now X x → length X ≤ MOST_HEAPS
+        ensures { (X : List ℕ) → labels self.now X x → length X ≤ LONGEST_POSITION
             → IsTrue result ↔ IsP (code self.now) X };
 
     /// The options of the heap n that are tried, in their order.

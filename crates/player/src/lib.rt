@@ -13,7 +13,7 @@ mod quotient;
 mod wins;
 
 pub use answering::{Answer, answer_by, outcome_by};
-pub use labelling::{Labelling, MOST_HEAPS};
+pub use labelling::{LONGEST_POSITION, Labelling};
 pub use laws::{plays_stay_inside, right_answers_are_one};
 pub use play::{answer, answer_at, fits, looks, outcome, value};
 pub use positions::{Options as Looks, Outcome};

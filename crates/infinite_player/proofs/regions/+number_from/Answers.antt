@@ -1,4 +1,4 @@
-use Rattle.std.proofs.Common.{ap, arith, length, ◌++◌}
+use Rattle.std.proofs.Common.{◌+◌, ap, arith, length}
 use Rattle.infinite_player.proofs.InPlane.{numbers_stop}
 use Rattle.infinite_player.proofs.regions.+number_from.Goals as goal
 
@@ -17,11 +17,10 @@ overflow_add-j-2 g t c =
     omega arith
 
 pub returns : goal.returns
-returns g t c =
-    numbers_stop c.args.t.now
-    (c.args.heaps.now.left.now ++ (c.args.heaps.now.before.now ++ c.args.heaps.now.behind.now))
-    _ _ _ _ c.args.j _ _ _ _ _ _ _ c.in-Some.ensures.cases.0
-    (let e = ap length c.in-Some.ensures.cases.0 in let m = c.requires.many in omega arith)
-    c.weighed_all.ensures.sum c.weighed_all-2.ensures.sum c.first_number-first.ensures
-    c.all_place_count.ensures c.number_from-others.ensures c.saturating_mul.ensures
-    c.saturating_add.ensures
+returns g t c = λ X counts.
+    let e = ap length c.in-Some.ensures.cases.0 in
+    let m = c.requires.many in
+    numbers_stop c.args.t.now X _ _ _ _ c.args.j _ _ _ _ _ _ _ c.in-Some.ensures.cases.0
+    (omega arith) (counts.exact c.args.j (omega arith)) (counts.exact (c.args.j + 1) (omega arith))
+    c.first_number-first.ensures c.all_place_count.ensures (c.number_from-others.ensures X counts)
+    c.saturating_mul.ensures c.saturating_add.ensures

@@ -1,4 +1,4 @@
-use Rattle.std.proofs.Common.{◌≡◌, ◌+◌, ◌-◌, subst, arith}
+use Rattle.std.proofs.Common.{◌+◌, ◌-◌, subst, arith}
 use Rattle.std.specs.List.{Contains}
 use Rattle.misere_theory.specs.Pairs.{IsSmallSplit}
 use Rattle.heap_options.specs.Exact.{heaps_of}

@@ -1,4 +1,4 @@
-use Rattle.std.proofs.Common.{rules, ◌≡◌, suc, ◌++◌, ◌+◌, ◌-◌, ◌/◌, ap, subst, arith, drop, take}
+use Rattle.std.proofs.Common.{rules, ◌≡◌, suc, ◌++◌, ◌+◌, ◌-◌, ◌/◌, subst, arith, drop, take}
 use Rattle.std.specs.Option.{MatchOption}
 use Rattle.heap_options.specs.Exact.{heaps_of}
 use Rattle.player.specs.Labels.{HasLabel}

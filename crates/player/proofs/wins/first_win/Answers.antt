@@ -1,4 +1,4 @@
-use Rattle.std.proofs.Common.{rules, ◌≡◌, ℕ, List, [], ◌<◌, length, Option, Some, None, arith}
+use Rattle.std.proofs.Common.{rules, ◌≡◌, length, Option, Some, None, arith}
 use Rattle.std.specs.Option.{MatchOption}
 use Rattle.positions.specs.declared.moves.Move.{Move}
 use Rattle.player.proofs.Tried.{heap_of, none_at_all}

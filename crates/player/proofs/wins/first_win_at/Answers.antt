@@ -1,5 +1,5 @@
-use Rattle.std.proofs.Common.{rules, ◌≡◌, ◌<◌, ◌∷◌, ◌++◌, [], length, sym, ◌∙◌, ap, subst, append_assoc, get_or}
-use Rattle.misere_theory.specs.Games.{IsPosition, IsP}
+use Rattle.std.proofs.Common.{rules, ◌≡◌, ◌<◌, ◌∷◌, ◌++◌, [], length, sym, ◌∙◌, ap, subst, append_assoc}
+use Rattle.misere_theory.specs.Games.{IsPosition}
 use Rattle.heap_options.specs.Exact.{heaps_of}
 use Rattle.player.proofs.Labels.{p_beside, not_p_beside, short}
 use Rattle.player.proofs.Tried.{first_of_all, none_more, parts_are_heaps, seen_more}

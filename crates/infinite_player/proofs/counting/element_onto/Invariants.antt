@@ -1,9 +1,0 @@
-use Rattle.std.proofs.Common.{◌≡◌, ◌-◌, ◌++◌, ℕ, List, length, drop}
-use Rattle.counted_claims.specs.Counted.{element}
-use Rattle.tracked_claims.specs.Reads.{claim_in}
-use Rattle.infinite_player.proofs.counting.element_onto.Given as goal
-
-abbrev pub invariant-loop-i : goal.invariant-loop-i
-invariant-loop-i g l =
-    (X : List ℕ) → l.product ≡ element (claim_in l.t) X
-    → l.all ≡ element (claim_in l.t) (drop (length l.heaps - l.i) l.heaps ++ X)
