@@ -5,7 +5,7 @@ ghost use Rattle.certificate_lines.specs.Given.{Gives};
 ghost use Rattle.certificate_text.specs.Reading.{front_at};
 
 use crate::format::format_by;
-use certificate_lines::{Front, Reader, TextFault, field, number_lines};
+use certificate_lines::{Front, Reader, TextFault, Wanted, field, number_lines};
 
 /// The format, the code, the order, the start and the period.
 #[tactic(auto, unfolding(certificate_text::specs::Reading::front_at))]
@@ -19,8 +19,11 @@ pub fn front_lines(reader: &mut Reader<'_>) -> Result<Front, TextFault>
     let format = field(reader, b"mqc", 1, 4)?;
     let front = number_lines(reader)?;
     if format == format_by(&front.code, front.order, front.start, front.period) {
-        Ok(front)
-    } else {
-        Err(TextFault::Text)
+        return Ok(front);
     }
+    reader.wants(
+        reader.left(),
+        Wanted::Words("in the first line the format of these numbers"),
+    );
+    Err(TextFault::Text)
 }

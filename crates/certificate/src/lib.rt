@@ -17,10 +17,10 @@ mod reading;
 mod writing;
 
 pub use cert::{Cert, in_ranges};
-pub use certificate_lines::{Key, TextFault};
+pub use certificate_lines::{Key, Reader, TextFault};
 pub use fault::WriteFault;
 pub use fields::Fields;
 pub use laws::claims_agree;
-pub use reading::read;
+pub use reading::{read, read_from};
 pub use streams::{Sink, Source};
 pub use writing::write;

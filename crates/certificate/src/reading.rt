@@ -14,7 +14,7 @@ use crate::cert::Cert;
 use crate::expanding::expanded;
 use crate::firsts::is_expandable;
 use crate::lists::{Lists, list_lines};
-use certificate_lines::{Reader, TextFault, firsts, line, rows};
+use certificate_lines::{Reader, TextFault, Wanted, firsts, line, rows};
 use certificate_text::LONGEST_TEXT;
 use std::alloc::Allocator;
 
@@ -59,10 +59,13 @@ fn first_rows<A: Allocator + Copy>(
     let rows = rows(alloc, reader, lists.front.order, firsts(&lists.words))?;
     reader.fixed(b"end\n")?;
     if is_expandable(lists) {
-        Ok(rows)
-    } else {
-        Err(TextFault::Text)
+        return Ok(rows);
     }
+    reader.wants(
+        reader.left(),
+        Wanted::Words("keys of which all rows can be made"),
+    );
+    Err(TextFault::Text)
 }
 
 /// The certificate that stands in front.
@@ -79,9 +82,28 @@ fn certificate<A: Allocator + Copy>(alloc: A, reader: &mut Reader<'_>) -> Result
     let rows = first_rows(alloc, reader, &lists)?;
     let length = before.saturating_sub(reader.left());
     if length > LONGEST_TEXT {
+        reader.wants(reader.left(), Wanted::Words("at most 4194304 bytes"));
         return Err(TextFault::Text);
     }
     Ok(expanded(alloc, lists.with_table(rows, Vec::new(alloc)))?)
+}
+
+/// Reads all that is left as a certificate. After a refusal of `Text` the reader says where it stopped.
+pub fn read_from<A: Allocator + Copy>(
+    alloc: A,
+    reader: &mut Reader<'_>,
+) -> Result<Cert<A>, TextFault>
+    ensures ok { IfOk result (λ c. Spells reader.old c) }
+    ensures same { (c : Certificate) → Spells reader.old c → IfOk result (λ d. d ≡ c) }
+    ensures text { (result ≡ Err TextFault.Text) → (c : Certificate) → Spells reader.old c → ⊥ }
+{
+    certificate_text::reading_is_spelling();
+    let cert = certificate(alloc, reader)?;
+    if reader.is_at_end() {
+        return Ok(cert);
+    }
+    reader.wants(reader.left(), Wanted::End);
+    Err(TextFault::Text)
 }
 
 /// Reads all of the bytes as a certificate.
@@ -99,12 +121,5 @@ pub fn read<A: Allocator + Copy>(alloc: A, bytes: &[u8]) -> Result<Cert<A>, Text
     // Text only where the bytes spell none.
     ensures text { (result ≡ Err TextFault.Text) → (c : Certificate) → Spells bytes.now c → ⊥ }
 {
-    certificate_text::reading_is_spelling();
-    let mut reader = Reader::new(bytes);
-    let cert = certificate(alloc, &mut reader)?;
-    if reader.is_at_end() {
-        Ok(cert)
-    } else {
-        Err(TextFault::Text)
-    }
+    read_from(alloc, &mut Reader::new(bytes))
 }

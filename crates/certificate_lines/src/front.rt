@@ -7,6 +7,7 @@ ghost use Rattle.certificate_text.specs.Reading.{code_line_at, least_period, num
 use crate::fault::TextFault;
 use crate::lines::field;
 use crate::reader::Reader;
+use crate::stop::Wanted;
 use misere_theory::{LARGEST_ORDER, LARGEST_PART, MOST_ENTRIES};
 use octal_code::Code;
 
@@ -24,12 +25,17 @@ pub fn code_line(reader: &mut Reader<'_>) -> Result<Code, TextFault>
     ensures { Gives (λ x. (x, reader.new)) result (code_line_at reader.old) }
 {
     certificate_text::code_lines_are_codes();
+    let left = reader.left();
     let Some(line) = reader.line() else {
+        reader.wants(left, Wanted::Code);
         return Err(TextFault::Text);
     };
     match Code::read(line) {
         Ok(code) => Ok(code),
-        Err(_) => Err(TextFault::Text),
+        Err(_) => {
+            reader.wants(left, Wanted::Code);
+            Err(TextFault::Text)
+        }
     }
 }
 

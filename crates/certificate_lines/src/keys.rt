@@ -7,6 +7,7 @@ ghost use Rattle.certificate_text.specs.Reading.{key_at, words_at, line_at};
 use crate::fault::TextFault;
 use crate::key::Key;
 use crate::reader::Reader;
+use crate::stop::Wanted;
 use std::alloc::Allocator;
 
 /// An element below the order and a heap from 1 up to below `heaps`, with a colon between them.
@@ -18,10 +19,16 @@ fn key(reader: &mut Reader<'_>, order: u16, heaps: u16) -> Result<Key, TextFault
 {
     let element = reader.number(order)?;
     reader.fixed(b":")?;
+    let left = reader.left();
     let heap = reader.number(heaps)?;
     if 0 < heap {
         Ok(Key { element, heap })
     } else {
+        let wanted = Wanted::Number {
+            least: 1,
+            limit: heaps,
+        };
+        reader.wants(left, wanted);
         Err(TextFault::Text)
     }
 }
@@ -41,7 +48,7 @@ fn keys<A: Allocator>(
 {
     let mut found = Vec::new(alloc);
     for _ in 0..count {
-        reader.fixed(b" ")?;
+        reader.space()?;
         let x = key(reader, order, heaps)?;
         found.push(x)?;
     }

@@ -10,6 +10,7 @@ mod keys;
 mod lines;
 mod numbers;
 mod reader;
+mod stop;
 
 pub use fault::TextFault;
 pub use front::{Front, code_line, number_lines};
@@ -17,3 +18,4 @@ pub use key::Key;
 pub use keys::{firsts, key_line, keys_fall};
 pub use lines::{field, line, portion, rows};
 pub use reader::Reader;
+pub use stop::{Stopped, Wanted};

@@ -5,6 +5,7 @@ ghost use Rattle.certificate_text.specs.Reading.{with_front, number_at, words_at
 
 use crate::fault::TextFault;
 use crate::reader::Reader;
+use crate::stop::Wanted;
 use std::alloc::Allocator;
 
 /// Numbers below the limit, each behind a space, put behind those that were found before.
@@ -30,7 +31,7 @@ fn numbers<A: Allocator>(
 fn line_behind<A: Allocator>(
     reader: &mut Reader<'_>,
     found: &mut Vec<u16, A>,
-    name: &[u8],
+    name: &'static [u8],
     count: usize,
     limit: u16,
 ) -> Result<(), TextFault>
@@ -48,7 +49,7 @@ fn line_behind<A: Allocator>(
 pub fn line<A: Allocator>(
     alloc: A,
     reader: &mut Reader<'_>,
-    name: &[u8],
+    name: &'static [u8],
     count: usize,
     limit: u16,
 ) -> Result<Vec<u16, A>, TextFault>
@@ -81,15 +82,22 @@ pub fn rows<A: Allocator>(
 /// A line of one number, from `least` up to below the limit. One out of this range is refused before
 /// the line's end is taken, so a reader that gives up is still in that line.
 #[tactic(auto, unfolding(certificate_text::specs::Reading::field_at))]
-pub fn field(reader: &mut Reader<'_>, name: &[u8], least: u16, limit: u16) -> Result<u16, TextFault>
+pub fn field(
+    reader: &mut Reader<'_>,
+    name: &'static [u8],
+    least: u16,
+    limit: u16,
+) -> Result<u16, TextFault>
     requires { 0 < limit }
     ensures read { Gives (λ x. (x, reader.new)) result (field_at name.now least limit reader.old) }
     ensures range { IfOk result (λ x. (least ≤ x) × (x < limit)) }
 {
     reader.fixed(name)?;
     reader.fixed(b" ")?;
+    let left = reader.left();
     let x = reader.number(limit)?;
     if x < least {
+        reader.wants(left, Wanted::Number { least, limit });
         return Err(TextFault::Text);
     }
     reader.fixed(b"\n")?;
@@ -111,8 +119,10 @@ fn rising<A: Allocator>(
         if !reader.takes(b" ") {
             return Ok(found);
         }
+        let left = reader.left();
         let x = reader.number(limit)?;
         if x < least {
+            reader.wants(left, Wanted::Greater { limit });
             return Err(TextFault::Text);
         }
         found.push(x)?;
@@ -132,9 +142,11 @@ pub fn portion<A: Allocator>(
     ensures { Gives (λ x. (x.items, reader.new)) result (portion_at order reader.old) }
 {
     reader.fixed(b"portion")?;
+    let left = reader.left();
     let found = rising(alloc, reader, order)?;
     reader.fixed(b"\n")?;
     if found.is_empty() {
+        reader.wants(left, Wanted::More);
         return Err(TextFault::Text);
     }
     Ok(found)

@@ -3,15 +3,19 @@ ghost use Rattle.std.specs.Prelude.{length, ◌≡◌, ◌≢◌, ◌==◌, ◌<
 ghost use Rattle.std.specs.Bool.{OnFalse};
 ghost use Rattle.certificate_lines.specs.Given.{Gives};
 ghost use Rattle.certificate_text.specs.Reading.{fixed_at, number_at, code_digit_at};
+ghost use Rattle.certificate_lines.specs.declared.fault.TextFault.{TextFault};
 
 use crate::fault::TextFault;
 use crate::numbers::{behind, number_in_front};
+use crate::stop::{Stopped, Wanted};
 use std::marker::Model;
 
-/// Bytes that are read from the front. After a refusal nothing is said of what is left.
+/// Bytes that are read from the front. After a refusal nothing is said of what is left; where it stopped,
+/// and what it wanted there, is noted.
 #[derive(Drop)]
 pub struct Reader<'a> {
     rest: &'a [u8],
+    stop: Stopped,
 }
 
 impl<'a> Model for Reader<'a> {
@@ -27,7 +31,25 @@ impl<'a> Reader<'a> {
     pub fn new(bytes: &'a [u8]) -> Reader<'a>
         ensures { result ≡ bytes.entry.now }
     {
-        Reader { rest: bytes }
+        Reader {
+            rest: bytes,
+            stop: Stopped {
+                left: bytes.len(),
+                wanted: Wanted::End,
+            },
+        }
+    }
+
+    /// Where it stopped, after a refusal of `Text`.
+    pub fn stop(&self) -> Stopped {
+        self.stop
+    }
+
+    /// Notes what was wanted when so many bytes were left.
+    pub fn wants(&mut self, left: usize, wanted: Wanted)
+        ensures { self.new ≡ self.old }
+    {
+        self.stop = Stopped { left, wanted };
     }
 
     /// Whether all is read.
@@ -60,12 +82,13 @@ impl<'a> Reader<'a> {
     }
 
     /// Takes these bytes.
-    pub fn fixed(&mut self, text: &[u8]) -> Result<(), TextFault>
+    pub fn fixed(&mut self, text: &'static [u8]) -> Result<(), TextFault>
         ensures { Gives (λ _. self.new) result (fixed_at text.now self.old) }
     {
         if self.takes(text) {
             Ok(())
         } else {
+            self.wants(self.left(), Wanted::Bytes(text));
             Err(TextFault::Text)
         }
     }
@@ -80,7 +103,10 @@ impl<'a> Reader<'a> {
                 self.rest = rest;
                 Ok(())
             }
-            _ => Err(TextFault::Text),
+            _ => {
+                self.wants(self.left(), Wanted::More);
+                Err(TextFault::Text)
+            }
         }
     }
 
@@ -90,7 +116,10 @@ impl<'a> Reader<'a> {
         ensures read { Gives (λ x. (x, self.new)) result (number_at limit self.old) }
         ensures below { IfOk result (λ x. x < limit) }
     {
-        let (x, rest) = number_in_front(self.rest, limit)?;
+        let Some((x, rest)) = number_in_front(self.rest, limit) else {
+            self.wants(self.left(), Wanted::Number { least: 0, limit });
+            return Err(TextFault::Text);
+        };
         self.rest = rest;
         Ok(x)
     }
@@ -101,6 +130,7 @@ impl<'a> Reader<'a> {
         ensures read { Gives (λ d. (d, self.new)) result (code_digit_at self.old) }
         ensures below { IfOk result (λ d. d < 16) }
     {
+        self.wants(self.left(), Wanted::Digit);
         let [b, rest @ ..] = self.rest else {
             return Err(TextFault::Text);
         };

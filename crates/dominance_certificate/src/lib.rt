@@ -6,6 +6,6 @@
 mod reading;
 mod text;
 
-pub use certificate_lines::TextFault;
-pub use reading::read;
+pub use certificate_lines::{Reader, TextFault};
+pub use reading::{read, read_from};
 pub use text::DominanceText;

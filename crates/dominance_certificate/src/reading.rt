@@ -7,7 +7,7 @@ ghost use Rattle.dominance_text.specs.Spelling.{SpellsDominance};
 ghost use Rattle.dominance_text.specs.Reading.{front_at, labels_at, said_at};
 
 use crate::text::DominanceText;
-use certificate_lines::{Reader, TextFault, code_line, field, line};
+use certificate_lines::{Reader, TextFault, Wanted, code_line, field, line};
 use dominance_text::{LARGEST_WEIGHT, MOST_LABELS};
 use octal_code::Code;
 use std::alloc::Allocator;
@@ -95,6 +95,26 @@ fn lines<A: Allocator + Copy>(
     })
 }
 
+/// Reads all that is left as a claim on a whole game with a ruling heap. After a refusal of `Text` the
+/// reader says where it stopped.
+pub fn read_from<A: Allocator + Copy>(
+    alloc: A,
+    reader: &mut Reader<'_>,
+) -> Result<DominanceText<A>, TextFault>
+    ensures ok { IfOk result (λ t. SpellsDominance reader.old t) }
+    ensures same { (c : DominanceSaid) → SpellsDominance reader.old c → IfOk result (λ t. t ≡ c) }
+    ensures text { (result ≡ Err TextFault.Text) → (c : DominanceSaid)
+        → SpellsDominance reader.old c → ⊥ }
+{
+    dominance_text::reading_is_spelling();
+    let said = lines(alloc, reader)?;
+    if reader.is_at_end() {
+        return Ok(said);
+    }
+    reader.wants(reader.left(), Wanted::End);
+    Err(TextFault::Text)
+}
+
 /// Reads all of the bytes as a claim on a whole game with a ruling heap.
 ///
 /// Refuses `Text` where they spell none, and `Memory` only where a growth was refused. What it
@@ -108,12 +128,5 @@ pub fn read<A: Allocator + Copy>(alloc: A, bytes: &[u8]) -> Result<DominanceText
     ensures text { (result ≡ Err TextFault.Text) → (c : DominanceSaid) → SpellsDominance bytes.now c
         → ⊥ }
 {
-    dominance_text::reading_is_spelling();
-    let mut reader = Reader::new(bytes);
-    let said = lines(alloc, &mut reader)?;
-    if reader.is_at_end() {
-        Ok(said)
-    } else {
-        Err(TextFault::Text)
-    }
+    read_from(alloc, &mut Reader::new(bytes))
 }

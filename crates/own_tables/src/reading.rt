@@ -9,7 +9,7 @@ ghost use Rattle.own_tables.specs.Faults.{SpellsNone};
 
 use crate::laws::reading_tables_is_spelling;
 use crate::table::OwnTable;
-use certificate_lines::{Front, Reader, TextFault, line, number_lines, portion, rows};
+use certificate_lines::{Front, Reader, TextFault, Wanted, line, number_lines, portion, rows};
 use std::alloc::Allocator;
 
 /// Why bytes are not read as a table.
@@ -72,8 +72,11 @@ fn table<A: Allocator + Copy>(alloc: A, reader: &mut Reader<'_>) -> Result<OwnTa
     Ok(OwnTable::from_lists(front.code, numbers, heaps, portion, rows))
 }
 
-/// All that is left as a table.
-fn whole<A: Allocator + Copy>(alloc: A, reader: &mut Reader<'_>) -> Result<OwnTable<A>, TextFault>
+/// Reads all that is left as a table. After a refusal of `Text` the reader says where it stopped.
+pub fn read_table_from<A: Allocator + Copy>(
+    alloc: A,
+    reader: &mut Reader<'_>,
+) -> Result<OwnTable<A>, TextFault>
     ensures ok { IfOk result (λ t. SpellsTable reader.old t) }
     ensures same { (o : Own) → SpellsTable reader.old o → IfOk result (λ t. t ≡ o) }
     ensures text { (result ≡ Err TextFault.Text) → (o : Own) → SpellsTable reader.old o → ⊥ }
@@ -81,10 +84,10 @@ fn whole<A: Allocator + Copy>(alloc: A, reader: &mut Reader<'_>) -> Result<OwnTa
     reading_tables_is_spelling();
     let table = table(alloc, reader)?;
     if reader.is_at_end() {
-        Ok(table)
-    } else {
-        Err(TextFault::Text)
+        return Ok(table);
     }
+    reader.wants(reader.left(), Wanted::End);
+    Err(TextFault::Text)
 }
 
 /// In which line so many bytes are left.
@@ -112,7 +115,7 @@ pub fn read_table<A: Allocator + Copy>(alloc: A, bytes: &[u8]) -> Result<OwnTabl
     ensures none { IfErr result (SpellsNone bytes.now) }
 {
     let mut reader = Reader::new(bytes);
-    match whole(alloc, &mut reader) {
+    match read_table_from(alloc, &mut reader) {
         Ok(table) => Ok(table),
         Err(TextFault::Memory) => Err(TableFault::Memory),
         Err(TextFault::Text) => Err(TableFault::Text(line_with(bytes, reader.left()))),

@@ -7,7 +7,7 @@ ghost use Rattle.tracked_text.specs.Reading.{numbers_at, elements_at};
 
 use crate::heaps::has_element;
 use crate::phi::element_line;
-use certificate_lines::{Reader, TextFault, code_line, field};
+use certificate_lines::{Reader, TextFault, Wanted, code_line, field};
 use misere_theory::LARGEST_ORDER;
 use octal_code::Code;
 use std::alloc::Allocator;
@@ -50,8 +50,8 @@ pub fn elements<A: Allocator>(
 {
     let found = element_line(alloc, reader, heaps, order)?;
     if has_element(&found, heaps) {
-        Ok(found)
-    } else {
-        Err(TextFault::Text)
+        return Ok(found);
     }
+    reader.wants(reader.left(), Wanted::Words("an element of the last heap"));
+    Err(TextFault::Text)
 }

@@ -5,7 +5,7 @@ ghost use Rattle.tracked_text.specs.declared.TheConstants.{MOST_HEAPS};
 ghost use Rattle.tracked_text.specs.Said.{has_element};
 ghost use Rattle.tracked_text.specs.Reading.{heaps_at, position_at};
 
-use certificate_lines::{Reader, TextFault};
+use certificate_lines::{Reader, TextFault, Wanted};
 use std::alloc::Allocator;
 
 /// Whether the heap has an element.
@@ -36,11 +36,14 @@ fn heaps<A: Allocator>(
         if !reader.takes(b" ") {
             return Ok(found);
         }
+        let left = reader.left();
         let heap = reader.number(limit)?;
         if heap < least {
+            reader.wants(left, Wanted::Number { least, limit });
             return Err(TextFault::Text);
         }
         if !has_element(elements, heap) {
+            reader.wants(left, Wanted::Words("a heap that has an element"));
             return Err(TextFault::Text);
         }
         found.push(heap)?;
@@ -54,7 +57,7 @@ fn heaps<A: Allocator>(
 pub fn position<A: Allocator>(
     alloc: A,
     reader: &mut Reader<'_>,
-    name: &[u8],
+    name: &'static [u8],
     elements: &[Option<u16>],
 ) -> Result<Vec<u16, A>, TextFault>
     requires { length elements.now ≤ MOST_HEAPS }

@@ -14,7 +14,7 @@ use crate::places::count;
 use crate::regions::region_lines;
 use crate::tracks::{Tracks, track_lines};
 use crate::words::words;
-use certificate_lines::{Key, Reader, TextFault, firsts, rows};
+use certificate_lines::{Key, Reader, TextFault, Wanted, firsts, rows};
 use std::alloc::{Allocator, Global};
 
 /// The lines up to the tracks, and how many places these have.
@@ -58,7 +58,10 @@ fn few_tracks<A: Allocator + Copy>(
     let tracks = track_lines(alloc, reader, elements)?;
     match count(&tracks.folds) {
         Some(places) => Ok((tracks, places)),
-        None => Err(TextFault::Text),
+        None => {
+            reader.wants(reader.left(), Wanted::Words("tracks with fewer places"));
+            Err(TextFault::Text)
+        }
     }
 }
 

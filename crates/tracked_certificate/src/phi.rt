@@ -34,7 +34,7 @@ fn elements<A: Allocator>(
 {
     let mut found = Vec::new(alloc);
     for _ in 0..count {
-        reader.fixed(b" ")?;
+        reader.space()?;
         let x = element(reader, limit)?;
         found.push(x)?;
     }

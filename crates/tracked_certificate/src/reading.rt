@@ -11,7 +11,7 @@ use crate::complete::completed;
 use crate::listing::Listing;
 use crate::parts::{head_lines, ray_lines, table_lines};
 use crate::text::TrackedText;
-use certificate_lines::{Reader, TextFault};
+use certificate_lines::{Reader, TextFault, Wanted};
 use certificate_text::LONGEST_TEXT;
 use std::alloc::Allocator;
 
@@ -24,6 +24,30 @@ fn lines<A: Allocator + Copy>(alloc: A, reader: &mut Reader<'_>) -> Result<Listi
     let ray = ray_lines(alloc, reader, &head.elements)?;
     reader.fixed(b"end\n")?;
     Ok(Listing { head, table, ray })
+}
+
+/// Reads all that is left as a certificate with tracks. After a refusal of `Text` the reader says where it
+/// stopped.
+pub fn read_from<A: Allocator + Copy>(
+    alloc: A,
+    reader: &mut Reader<'_>,
+) -> Result<TrackedText<A>, TextFault>
+    ensures ok { IfOk result (λ t. (c : Said) × Spells reader.old c × (t ≡ told_of c)) }
+    ensures same { (c : Said) → Spells reader.old c → IfOk result (λ t. t ≡ told_of c) }
+    ensures text { (result ≡ Err TextFault.Text) → (c : Said) → Spells reader.old c → ⊥ }
+{
+    tracked_text::reading_is_spelling();
+    let left = reader.left();
+    if left > LONGEST_TEXT {
+        reader.wants(left, Wanted::Words("at most 4194304 bytes"));
+        return Err(TextFault::Text);
+    }
+    let listing = lines(alloc, reader)?;
+    if !reader.is_at_end() {
+        reader.wants(reader.left(), Wanted::End);
+        return Err(TextFault::Text);
+    }
+    Ok(completed(alloc, listing)?)
 }
 
 /// Reads all of the bytes as a certificate with tracks.
@@ -40,14 +64,5 @@ pub fn read<A: Allocator + Copy>(alloc: A, bytes: &[u8]) -> Result<TrackedText<A
     // Text only where the bytes spell none.
     ensures text { (result ≡ Err TextFault.Text) → (c : Said) → Spells bytes.now c → ⊥ }
 {
-    tracked_text::reading_is_spelling();
-    if bytes.len() > LONGEST_TEXT {
-        return Err(TextFault::Text);
-    }
-    let mut reader = Reader::new(bytes);
-    let listing = lines(alloc, &mut reader)?;
-    if !reader.is_at_end() {
-        return Err(TextFault::Text);
-    }
-    Ok(completed(alloc, listing)?)
+    read_from(alloc, &mut Reader::new(bytes))
 }

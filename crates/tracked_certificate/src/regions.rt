@@ -8,7 +8,7 @@ ghost use Rattle.tracked_text.specs.Said.{is_empty};
 ghost use Rattle.tracked_text.specs.Reading.{hex_at, places_at, region_at, regions_at};
 ghost use Rattle.tracked_certificate.specs.Told.{spread};
 
-use certificate_lines::{Reader, TextFault};
+use certificate_lines::{Reader, TextFault, Wanted};
 use std::alloc::{AllocError, Allocator};
 
 /// Whether there is no place.
@@ -53,9 +53,11 @@ fn places<A: Allocator>(
     requires { count ≤ MOST_PLACES }
     ensures { Gives (λ x. (x.items, reader.new)) result (places_at count reader.old) }
 {
+    let left = reader.left();
     let mut places = hex(alloc, reader, (count + 3) / 4)?;
     let (inside, behind) = places.split_at(count as usize);
     if is_empty(inside) || !is_empty(behind) {
+        reader.wants(left, Wanted::Words("a place, and none after the last"));
         return Err(TextFault::Text);
     }
     places.truncate(count as usize);
@@ -129,8 +131,10 @@ pub fn region_lines<A: Allocator + Copy>(
             repeat(&mut found, &empty, order - least)?;
             return Ok(found);
         }
+        let left = reader.left();
         let (element, places) = region(alloc, reader, order, count)?;
         if element < least {
+            reader.wants(left, Wanted::Greater { limit: order });
             return Err(TextFault::Text);
         }
         repeat(&mut found, &empty, element - least)?;

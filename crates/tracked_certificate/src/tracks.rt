@@ -9,7 +9,7 @@ ghost use Rattle.tracked_certificate.specs.Told.{IsGoodFold, track_behind, track
 
 use crate::heaps::has_element;
 use crate::weight::Weight;
-use certificate_lines::{Reader, TextFault};
+use certificate_lines::{Reader, TextFault, Wanted};
 use std::alloc::{AllocError, Allocator, Global};
 use tracked_claims::Fold;
 use tracked_text::{LARGEST_COUNT, MOST_TRACKS};
@@ -61,6 +61,7 @@ fn fold(reader: &mut Reader<'_>) -> Result<Fold, TextFault>
     ensures read { Gives (λ x. (x, reader.new)) result (fold_at reader.old) }
     ensures good { IfOk result IsGoodFold }
 {
+    let left = reader.left();
     let from = counts(reader)?;
     let step = count(reader)?;
     let top = counts(reader)?;
@@ -74,10 +75,10 @@ fn fold(reader: &mut Reader<'_>) -> Result<Fold, TextFault>
         modulus: modulus as u32,
     };
     if is_fold(&fold) {
-        Ok(fold)
-    } else {
-        Err(TextFault::Text)
+        return Ok(fold);
     }
+    reader.wants(left, Wanted::Words("the six numbers of a fold"));
+    Err(TextFault::Text)
 }
 
 /// A heap that has an element, and its weight, which isn't nothing.
@@ -87,16 +88,20 @@ fn weight(reader: &mut Reader<'_>, elements: &[Option<u16>]) -> Result<(u16, Wei
     ensures read { Gives (λ x. ((x.0, x.1), reader.new)) result (weight_at elements.now reader.old) }
     ensures below { IfOk result (λ x. x.0 ≤ length elements.now) }
 {
+    let left = reader.left();
     let heap = reader.number(elements.len() as u16 + 1)?;
     reader.fixed(b":")?;
     let down = reader.number(LARGEST_COUNT + 1)?;
     reader.fixed(b":")?;
     let up = reader.number(LARGEST_COUNT + 1)?;
     if has_element(elements, heap) && down + up != 0 {
-        Ok((heap, Weight { down, up }))
-    } else {
-        Err(TextFault::Text)
+        return Ok((heap, Weight { down, up }));
     }
+    reader.wants(
+        left,
+        Wanted::Words("a heap that has an element, and a weight"),
+    );
+    Err(TextFault::Text)
 }
 
 /// Nothing for so many heaps.
@@ -126,8 +131,10 @@ fn weights<A: Allocator>(
             skip(found, heaps + 1 - least)?;
             return Ok(());
         }
+        let left = reader.left();
         let (heap, weight) = weight(reader, elements)?;
         if heap < least {
+            reader.wants(left, Wanted::Greater { limit: heaps + 1 });
             return Err(TextFault::Text);
         }
         skip(found, heap - least)?;

@@ -8,7 +8,7 @@ ghost use Rattle.tracked_text.specs.declared.TheConstants.{MOST_HEAPS};
 ghost use Rattle.tracked_text.specs.Said.{phi_of};
 ghost use Rattle.tracked_text.specs.Reading.{words_at};
 
-use certificate_lines::{Key, Reader, TextFault, firsts, key_line, keys_fall};
+use certificate_lines::{Key, Reader, TextFault, Wanted, firsts, key_line, keys_fall};
 use std::alloc::Allocator;
 
 /// Whether these elements are 0 or first ones.
@@ -45,10 +45,11 @@ pub fn words<A: Allocator>(
     requires heaps { length elements.now ≤ MOST_HEAPS }
     ensures { Gives (λ x. (x.items, reader.new)) result (words_at order elements.now reader.old) }
 {
+    let left = reader.left();
     let found = key_line(alloc, reader, order, elements.len() as u16 + 1)?;
     if is_expandable(&found, elements) {
-        Ok(found)
-    } else {
-        Err(TextFault::Text)
+        return Ok(found);
     }
+    reader.wants(left, Wanted::Words("keys of which all rows can be made"));
+    Err(TextFault::Text)
 }

@@ -4,12 +4,12 @@ use Rattle.tracked_text.specs.Reading.{element_at}
 use Rattle.certificate_lines.proofs.Loop.{goes_on, no_space, no_word, is_done}
 use Rattle.tracked_certificate.proofs.phi.elements.Goals as goal
 
-pub returns-in_err-fixed-clause-read : goal.returns-in_err-fixed-clause-read
-returns-in_err-fixed-clause-read g c =
+pub returns-in_err-space-clause-read : goal.returns-in_err-space-clause-read
+returns-in_err-space-clause-read g c =
     let p = err_from_is_err_and c.from_residual.result c.from_residual.ensures.1 in
     rw (p.1, p.2)
     (no_space (element_at c.args.limit) _ _ _ _ _ c.loop.invariant.0
-    c.in_err-fixed.field-0.0 c.loop-test.true c.in_err-fixed.ensures)
+    c.in_err-space.field-0.0 c.loop-test.true c.in_err-space.ensures)
 
 pub returns-in_err-x-clause-read : goal.returns-in_err-x-clause-read
 returns-in_err-x-clause-read g c =
@@ -17,7 +17,7 @@ returns-in_err-x-clause-read g c =
     in
     rw (p.1, p.2)
     (no_word (element_at c.args.limit) _ _ _ _ _ c.loop.invariant.0 c.in_err-x.field-0.0
-    c.fixed.new.self c.loop-test.true c.in_ok-fixed.ensures c.in_err-x.ensures)
+    c.space.new.self c.loop-test.true c.in_ok-space.ensures c.in_err-x.ensures)
 
 pub loop-preserved : goal.loop-preserved
 loop-preserved g c =
@@ -25,8 +25,8 @@ loop-preserved g c =
     ∙ length-append c.loop.found.items (c.in_ok-x.x ∷ []) in
     let n = c.loop.invariant.1 in (
       rw c.in_ok-push.ensures.items
-          (goes_on (element_at c.args.limit) _ _ _ _ _ c.loop.invariant.0 c.fixed.new.self
-          c.in_ok-x.x c.element.new.reader c.loop-test.true c.in_ok-fixed.ensures c.in_ok-x.ensures),
+          (goes_on (element_at c.args.limit) _ _ _ _ _ c.loop.invariant.0 c.space.new.self
+          c.in_ok-x.x c.element.new.reader c.loop-test.true c.in_ok-space.ensures c.in_ok-x.ensures),
       omega arith,
     )
 

@@ -9,8 +9,8 @@ returns-then-is_expandable g c =
     (ap (λ (ks : List (ℕ × ℕ)). can_expand ks c.args.elements.now) (sym c.deref.ensures.value)
     ∙ sym c.if-is_expandable.ensures)
 
-pub returns-else-is_expandable : goal.returns-else-is_expandable
-returns-else-is_expandable g c =
+pub returns : goal.returns
+returns g c =
     keys_refused c.args.order c.args.elements.now c.args.reader.now c.in_ok-found.found.items
     c.key_line.new.reader c.in_ok-found.ensures
     (ap (λ (ks : List (ℕ × ℕ)). can_expand ks c.args.elements.now) (sym c.deref.ensures.value)

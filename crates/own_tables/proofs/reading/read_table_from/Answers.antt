@@ -1,6 +1,6 @@
 use Rattle.std.proofs.Common.{rules, ◌≡◌, ℕ, List, [], Some, subst}
 use Rattle.own_tables.specs.Reading.{own_at}
-use Rattle.own_tables.proofs.reading.whole.Goals as goal
+use Rattle.own_tables.proofs.reading.read_table_from.Goals as goal
 
 pub returns-then-is_at_end-clause-ok : goal.returns-then-is_at_end-clause-ok
 returns-then-is_at_end-clause-ok g c =
