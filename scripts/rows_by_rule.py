@@ -10,7 +10,7 @@ import subprocess
 from collections.abc import Callable, Iterable, Iterator
 from dataclasses import dataclass
 
-from certificate_lines import Certificate, text_of
+from certificate_lines import Certificate, text_of, words_of
 from made_certificates import certificate, cyclic, part
 from positions_by_values import faults_at
 from refused_texts import changed_texts, edges, of_changes, of_edges
@@ -206,6 +206,30 @@ idempotents 1 b^2
 kernel b c d """
 
 
+def are_no_units(text: str) -> bool:
+    """Whether no heap of a certificate with tracks that counts has an element of which 0 is a multiple."""
+    words, lines = words_of(text), text.splitlines()
+    said = (line.split(" ", 2) for line in lines if line.startswith("row "))
+    rows = {element: row for _, element, row in said}
+    heaps = (word.split(":")[0] for line in lines if line.startswith("track ") for word in line.split()[7:])
+    elements = [words["phi"].split()[int(heap) - 1] for heap in heaps]
+    return all(it != "0" and "0" not in rows[it].split() for it in elements)
+
+
+def large_infinite_quotients(program: str, _: pathlib.Path, runs: Runs) -> Iterator[str]:
+    """A limit below the number of elements, each of which is a position's; and an idle place among 24 elements: 0 is a
+    product of units alone, so no position with it has a heap that counts, and its only place is (0,0)."""
+    kayles = sample("0.07_heaps_34_without_33.mqi").decode()
+    if words_of(kayles)["order"] != "664":
+        yield "not 664 elements"
+    yield from differs(runs.run([program, "infinite", "-", "--limit", "663"], kayles.encode()), 1, b"no 8 Limit\n")
+    text = (root / "atlas/infinite/0.544_heaps_15.mqi").read_text()
+    if not are_no_units(text) or "\nregion 0 " in text:
+        yield "a position with the element 0 may have another place than (0,0)"
+    idle = text.replace("\nregion ", "\nregion 0 40\nregion ", 1)
+    yield from differs(runs.run([program, "infinite", "-"], idle.encode()), 1, b"no 32 Idle\n")
+
+
 def catalogue_of(texts: Iterable[tuple[str, str, int]], version: int) -> bytes:
     """A catalogue of certificates, with their codes and last heaps, as it is written."""
     entries: list[dict[str, str | int]] = []
@@ -356,6 +380,7 @@ def made_rows() -> Iterator[Made]:
     """All of them, those that take longest first."""
     yield Made("large refusals", 10, large_refusals)
     yield Made("large quotients", 4, large_quotients)
+    yield Made("large infinite quotients", 2, large_infinite_quotients)
     yield Made("edges of the formats", sum(1 for _ in edges()), of_edges)
     yield Made("changed texts", sum(1 for _ in changed_texts()), of_changes)
     yield Made("codes by rule", 255, codes_by_rule)
