@@ -19,5 +19,5 @@ pub use identities::identity;
 pub use laws::reading_tables_is_spelling;
 pub use likeness::alike;
 pub use reaching::unreached;
-pub use reading::{TableFault, read_table};
+pub use reading::{TableFault, read_table, read_table_from};
 pub use table::OwnTable;

@@ -19,5 +19,5 @@ mod weight;
 mod words;
 
 pub use certificate_lines::{Key, TextFault};
-pub use reading::read;
+pub use reading::{read, read_from};
 pub use text::TrackedText;
