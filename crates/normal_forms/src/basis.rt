@@ -1,0 +1,86 @@
+//! Relations by which each word has one normal form.
+ghost use Rattle.std.specs.Prelude.{◌≡◌, ◌<◌, ◌≤◌, ◌↔◌, MatchOption, IsTrue, IfOk, Err};
+ghost use Rattle.presentations.specs.declared.TheConstants.{LETTERS};
+ghost use Rattle.relations.specs.Bases.{letter_count};
+ghost use Rattle.normal_forms.specs.declared.TheConstants.{MOST_LETTERS};
+ghost use Rattle.normal_forms.specs.Reductions.{AreConvergent, AreOriented, AreShort};
+ghost use Rattle.normal_forms.specs.Forms.{IsNormalForm, IsStandard};
+
+use crate::MOST_LETTERS;
+use crate::fault::BasisFault;
+use crate::pairs::{are_oriented, are_short, do_pairs_join};
+use crate::reducing::{first_rule, letter_count, reduced};
+use crate::rule::{Exponents, Rule};
+use presentations::LETTERS;
+use std::alloc::{Allocator, Global};
+use std::marker::Model;
+
+/// Relations that lead down and whose critical pairs join.
+#[derive(Drop)]
+pub struct Basis<A: Allocator = Global> {
+    rules: Vec<Rule, A>,
+}
+
+impl<A: Allocator> Model for Basis<A> {
+    ghost use Rattle.std.specs.Prelude.{ℕ, List};
+    ghost use Rattle.presentations.specs.declared.TheConstants.{LETTERS};
+    ghost use Rattle.normal_forms.specs.Reductions.{AreConvergent};
+
+    ghost Value = { List (List ℕ × List ℕ) };
+
+    ghost view = { λ b. b.rules.items };
+
+    ghost invariant = { λ b. AreConvergent LETTERS b.rules.items };
+}
+
+impl<A: Allocator> Basis<A> {
+    /// Tests the relations. Refuses `Long` first, then `Order`, then `Pair`.
+    pub fn new(rules: Vec<Rule, A>) -> Result<Basis<A>, BasisFault>
+        ensures ok { IfOk result (λ b. (b ≡ rules.items) × AreShort LETTERS rules.items
+            × AreConvergent LETTERS rules.items) }
+        ensures long { (result ≡ Err BasisFault.Long) → AreShort LETTERS rules.items → ⊥ }
+        ensures order { (result ≡ Err BasisFault.Order) → AreOriented LETTERS rules.items → ⊥ }
+        ensures pair { (result ≡ Err BasisFault.Pair) → AreConvergent LETTERS rules.items → ⊥ }
+    {
+        if !are_short(rules.as_slice()) {
+            return Err(BasisFault::Long);
+        }
+        if !are_oriented(rules.as_slice()) {
+            return Err(BasisFault::Order);
+        }
+        if !do_pairs_join(rules.as_slice()) {
+            return Err(BasisFault::Pair);
+        }
+        Ok(Basis { rules })
+    }
+
+    /// The relations.
+    pub fn rules(&self) -> &[Rule]
+        ensures value { result.now ≡ self.now }
+        ensures convergent { AreConvergent LETTERS self.now }
+    {
+        self.rules.as_slice()
+    }
+
+    /// Whether no left word is in the word.
+    pub fn is_standard(&self, word: &Exponents) -> bool
+        ensures { IsTrue result ↔ IsStandard LETTERS self.now word.now }
+    {
+        match first_rule(self.rules.as_slice(), word) {
+            Some(_) => false,
+            None => true,
+        }
+    }
+
+    /// The normal form of a word, unless it has more than `MOST_LETTERS` letters.
+    pub fn normal_form(&self, word: &Exponents) -> Option<Exponents>
+        ensures { MatchOption result (MOST_LETTERS < letter_count LETTERS word.now)
+            (λ form. (letter_count LETTERS word.now ≤ MOST_LETTERS)
+            × IsNormalForm LETTERS self.now word.now form) }
+    {
+        if letter_count(word) > MOST_LETTERS {
+            return None;
+        }
+        Some(reduced(self.rules.as_slice(), word))
+    }
+}
