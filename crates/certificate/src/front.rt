@@ -23,7 +23,7 @@ pub fn front_lines(reader: &mut Reader<'_>) -> Result<Front, TextFault>
     }
     reader.wants(
         reader.left(),
-        Wanted::Words("in the first line the format of these numbers"),
+        Wanted::Words("numbers of the format of line 1"),
     );
     Err(TextFault::Text)
 }
