@@ -3,3 +3,6 @@ mod LeftOut
 mod Letters
 mod Shown
 mod Sizes
+mod Numbered
+mod Placed
+mod Printed

@@ -1,5 +1,5 @@
 -- Lines of places, where there are some; and items behind others.
-use Rattle.std.proofs.Common.{◌≡◌, ◌∙◌, ◌==◌, ◌+◌, ℕ, suc, Bool, false, true, List, [], ◌∷◌, ◌++◌, ap, append_assoc, arith, codes, decimal, length, refl, sym}
+use Rattle.std.proofs.Common.{◌≡◌, ◌∙◌, ◌==◌, ◌+◌, ℕ, suc, Bool, false, true, List, [], ◌∷◌, ap, arith, length, refl, sym}
 use Rattle.infinite_descriptions.specs.Latex as latex
 use Rattle.infinite_descriptions.specs.Latex.{place_latex}
 use Rattle.infinite_descriptions.specs.Plain as plain

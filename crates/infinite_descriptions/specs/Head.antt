@@ -1,5 +1,5 @@
 -- The first lines of a certificate of an infinite quotient. This project's own.
-use Rattle.std.specs.Prelude.{◌≡◌, ◌++◌, ℕ, Bool, List, [], ◌∷◌, codes, decimal, length, map}
+use Rattle.std.specs.Prelude.{◌++◌, ℕ, Bool, List, [], ◌∷◌, codes, decimal, length, map}
 use Rattle.octal_code.specs.Text.{code_text}
 use Rattle.certificate_text.specs.Spelling.{spaced}
 use Rattle.tracked_text.specs.Said.{numbered}

@@ -1,5 +1,5 @@
 -- What the heaps count, in texts. This project's own.
-use Rattle.std.specs.Prelude.{ℕ, zero, suc, ◌+◌, ◌*◌, nat_abs, Bool, true, false, List, [], ◌++◌, length, if◌then◌else◌, codes, decimal}
+use Rattle.std.specs.Prelude.{ℕ, zero, suc, ◌+◌, ◌*◌, nat_abs, List, [], ◌++◌, length, if◌then◌else◌, codes, decimal}
 use Rattle.tracked_claims.specs.Fields.{Fields}
 use Rattle.tracked_claims.specs.Reads.{claim_in, weight_in}
 use Rattle.infinite_descriptions.specs.Lists.{before}

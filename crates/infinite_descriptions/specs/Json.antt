@@ -1,5 +1,5 @@
 -- A certificate of an infinite quotient as one object of JSON. This project's own.
-use Rattle.std.specs.Prelude.{ℕ, zero, suc, ◌+◌, ◌==◌, Bool, List, [], ◌∷◌, ◌++◌, length, if◌then◌else◌, codes, decimal}
+use Rattle.std.specs.Prelude.{ℕ, zero, suc, ◌+◌, Bool, List, [], ◌∷◌, ◌++◌, length, codes, decimal}
 use Rattle.octal_code.specs.Text.{code_text}
 use Rattle.counted_claims.specs.Folds.{Fold}
 use Rattle.tracked_claims.specs.Fields.{Fields}

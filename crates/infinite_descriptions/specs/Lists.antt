@@ -1,5 +1,5 @@
 -- Lists of numbers in texts. This project's own.
-use Rattle.std.specs.Prelude.{ℕ, zero, suc, ◌+◌, ◌==◌, List, [], ◌∷◌, ◌++◌, length, slice_index, if◌then◌else◌, codes, decimal}
+use Rattle.std.specs.Prelude.{ℕ, zero, suc, ◌==◌, List, [], ◌∷◌, ◌++◌, length, slice_index, if◌then◌else◌, codes, decimal}
 
 -- what stands before number k of a list, of items with a text between each two
 abbrev pub before : List ℕ → ℕ → List ℕ

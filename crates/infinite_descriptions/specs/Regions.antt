@@ -1,9 +1,10 @@
 -- The places of regions in texts: numbers of places, read as downs and ups. This project's own.
-use Rattle.std.specs.Prelude.{ℕ, zero, suc, ◌+◌, ◌-◌, ◌*◌, ◌/◌, ◌%◌, nat_lt, min, List, [], ◌∷◌, ◌++◌, length, if◌then◌else◌, codes, decimal}
-use Rattle.counted_claims.specs.Folds.{Fold}
+use Rattle.std.specs.Prelude.{◌≡◌, ◌<◌, true, ℕ, zero, suc, ◌+◌, ◌-◌, ◌*◌, ◌/◌, ◌%◌, nat_lt, min, ℤ, pos, List, [], ◌∷◌, ◌++◌, if◌then◌else◌, codes, decimal}
+use Rattle.counted_claims.specs.Counted.{element, counted}
+use Rattle.counted_claims.specs.Folds.{Fold, folded}
 use Rattle.counted_claims.specs.Tracked.{all_place_count}
 use Rattle.tracked_claims.specs.Fields.{Fields}
-use Rattle.tracked_claims.specs.Reads.{is_inside}
+use Rattle.tracked_claims.specs.Reads.{claim_in, is_inside}
 use Rattle.infinite_descriptions.specs.Lists.{joined}
 
 -- how many places a down has at first, and how many places those downs have that have so many
@@ -27,6 +28,20 @@ abbrev pub up_of : Fold → ℕ → ℕ
 up_of a m =
     if nat_lt m (first_places a) then m % column a else (m - first_places a) % short_column a
 
+-- The place of number z: of each track a down and an up.
+abbrev pub place_of : List Fold → ℕ → List ℤ
+place_of [] z = []
+place_of (a ∷ fs) z =
+    pos (down_of a (z / all_place_count fs)) ∷ pos (up_of a (z / all_place_count fs))
+    ∷ place_of fs (z % all_place_count fs)
+
+-- One of the places that are printed of the position's element is the place of the position.
+abbrev pub IsAtPrinted : Fields → List ℕ → Type 0
+IsAtPrinted t X = (z : ℕ) × (z < all_place_count t.folds)
+    × (is_inside t (element (claim_in t) X) z ≡ true)
+    × (place_of t.folds z ≡ folded t.folds (counted (claim_in t) X))
+
+-- Its text: down and up, with a comma between.
 abbrev pub pair_text : Fold → ℕ → List ℕ
 pair_text a m = decimal (down_of a m) ++ codes "," ++ decimal (up_of a m)
 

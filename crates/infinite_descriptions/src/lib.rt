@@ -17,4 +17,5 @@ mod sums;
 mod tables;
 
 pub use describing::{Output, described};
+pub use families::printed_places_are_right;
 pub use head::{quotient_text, yes_text};
