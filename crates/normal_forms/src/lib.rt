@@ -20,4 +20,5 @@ mod rule;
 pub use basis::Basis;
 pub use fault::BasisFault;
 pub use laws::{elements_are_a_monoid, forms_are_unique, powers_bound, words_have_forms};
+pub use reducing::letter_count;
 pub use rule::{Exponents, Rule};

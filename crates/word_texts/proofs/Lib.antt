@@ -1,0 +1,3 @@
+pub mod Powers
+pub mod Words
+pub mod Loop
