@@ -62,6 +62,8 @@ class Text:
     @property
     def needs(self) -> tuple[str, ...]:
         """The files of the theory with what the theorem says, and with what proves it."""
+        if self.is_whole:
+            return ("WholeText", "Whole")
         if self.is_infinite:
             return ("Infinite", "Shown")
         if self.fault:
@@ -74,9 +76,16 @@ class Text:
         return self.text.startswith(b"mqi ")
 
     @property
+    def is_whole(self) -> bool:
+        """A text of a whole game: what it shows is who wins, and which positions are indistinguishable."""
+        return self.text.startswith(b"mqw ")
+
+    @property
     def theorem(self) -> str:
         if not self.right:
             return "refused_" + self.name
+        if self.is_whole:
+            return "whole_" + self.name
         return ("infinite_" if self.is_infinite else "quotient_of_") + self.name
 
     def line(self, name: str, otherwise: str) -> str:
@@ -88,6 +97,10 @@ class Text:
         return self.line("code", "")
 
     @property
+    def digits(self) -> str:
+        return "; ".join(str(int(digit, 16)) for digit in re.sub(r"[^0-9a-f]", "", self.code))
+
+    @property
     def last_heap(self) -> int:
         """0 for a full certificate."""
         if self.is_infinite:
@@ -97,6 +110,8 @@ class Text:
     def source(self) -> str:
         """The text as Coq has it, and the theorem."""
         text = f"\nDefinition text_of_{self.name} : text := {literal(self.text)}.\n\n"
+        if self.is_whole:
+            return text + self.source_of_whole()
         if not self.right and self.is_infinite:
             said = f"Theorem {self.theorem} : shown_by text_of_{self.name} = None.\n"
             return text + said + "Proof. vm_cast_no_check (eq_refl (@None (code * N))). Time Qed.\n"
@@ -106,7 +121,7 @@ class Text:
         if not self.right:
             said = f"Theorem {self.theorem} : forall k g, ~ certifies text_of_{self.name} k g.\n"
             return text + said + "Proof. apply refused_right. vm_cast_no_check (eq_refl false). Time Qed.\n"
-        digits = "; ".join(str(int(digit, 16)) for digit in re.sub(r"[^0-9a-f]", "", self.code))
+        digits = self.digits
         if self.is_infinite:
             game = f"[{digits}] {self.last_heap}"
             said = f"Theorem {self.theorem} : infinite {game} /\\ no_finite_quotient {game}.\n"
@@ -116,6 +131,17 @@ class Text:
         kind = f"(UpTo {self.last_heap})" if self.last_heap else "Whole"
         said = f"Theorem {self.theorem} : certifies text_of_{self.name} {kind} [{digits}].\n"
         return text + said + "Proof. apply check_sound. vm_cast_no_check (eq_refl true). Time Qed.\n"
+
+    def source_of_whole(self) -> str:
+        """The theorem of a text of a whole game."""
+        if self.fault:
+            said = f"Theorem {self.theorem} : forall c, ~ spells_whole text_of_{self.name} c.\n"
+            return said + "Proof. apply unread_whole. vm_cast_no_check (eq_refl (@None whole)). Time Qed.\n"
+        if not self.right:
+            said = f"Theorem {self.theorem} : is_solved text_of_{self.name} = false.\n"
+            return said + "Proof. vm_cast_no_check (eq_refl false). Time Qed.\n"
+        said = f"Theorem {self.theorem} : solves text_of_{self.name} [{self.digits}].\n"
+        return said + f"Proof. apply solves_right. vm_cast_no_check (eq_refl (Some [{self.digits}])). Time Qed.\n"
 
 
 def number(word: str) -> int:
@@ -150,7 +176,7 @@ def in_folder(folder: pathlib.Path, right: bool = True) -> list[Text]:
     return [
         Text(re.sub(r"\W", "_", file.stem), file.read_bytes(), right, "" if right else fault_of(file.stem))
         for file in sorted(folder.iterdir())
-        if file.suffix in (".mqc", ".mqi")
+        if file.suffix in (".mqc", ".mqi", ".mqw")
     ]
 
 

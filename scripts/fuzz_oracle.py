@@ -24,7 +24,10 @@ from script import root
 CHECKER = root / "coq/out/checker"
 SECONDS = 60
 LARGEST = 100  # the order above which a text isn't changed: with tracks each one takes seconds
-NUMBERED = re.compile(rb"(?m)^(phi|portion|words|row|apart|track|base|up|down|start|period) .*$")
+NUMBERED = re.compile(
+    rb"(?m)^(phi|portion|words|row|apart|track|base|up|down|start|period|rise|odd|weights|leads) .*$"
+)
+KINDS = ("without tracks", "with tracks", "of whole games")
 
 
 def are_small(texts: Iterable[bytes]) -> list[bytes]:
@@ -42,6 +45,12 @@ def small_infinite() -> list[bytes]:
     """The certificates of infinite quotients of small orders."""
     files = [*sorted(root.glob("certificates/*.mqi")), *sorted(root.glob("atlas/infinite/*.mqi"))]
     return are_small(file.read_bytes() for file in files)
+
+
+def whole_games() -> list[bytes]:
+    """The texts of whole games."""
+    files = [*sorted(root.glob("certificates/*.mqw")), *sorted(root.glob("atlas/whole/*.mqw"))]
+    return [file.read_bytes() for file in files]
 
 
 def nudged(text: bytes, chance: random.Random) -> bytes:
@@ -88,42 +97,45 @@ class Oracle:
     """Two programs, and the texts that are changed for them."""
 
     program: str
-    samples: list[bytes]
-    infinite: list[bytes]
+    samples: dict[str, list[bytes]]
 
-    def look(self, seed: int, is_infinite: bool) -> tuple[str, str, int]:
+    def look(self, seed: int, kind: str) -> tuple[str, str, int]:
         """What misere says of a changed text, what the other program says, and the seed."""
-        text = damaged(self.infinite if is_infinite else self.samples, random.Random(seed))
+        text = damaged(self.samples[kind], random.Random(seed))
         with tempfile.TemporaryDirectory() as folder:
             file = pathlib.Path(folder, "text")
             file.write_bytes(text)
-            said = line_of([self.program, "infinite" if is_infinite else "check", file])
+            said = line_of([self.program, "check" if kind == KINDS[0] else "infinite", file])
             other = line_of([CHECKER, file])
-        if is_infinite:
-            said, other = ("no" if it.startswith("no ") else it for it in (said, other))
+        if other == "no" and said.startswith("no "):  # (the other program tells no fault of a text with tracks)
+            said = "no"
         return said, other, seed
 
 
-def kind_of(line: str) -> str:
+def answer_of(line: str) -> str:
     """The line without the certificate of which it tells."""
     return line if line.startswith("no") else line.split(" ")[0]
 
 
-def look_at(oracle: Oracle, seed: int, count: int, is_infinite: bool) -> int:
+def oracle(program: str) -> Oracle:
+    return Oracle(program, dict(zip(KINDS, (small_finite(), small_infinite(), whole_games()))))
+
+
+def look_at(oracle: Oracle, seed: int, count: int, kind: str, jobs: int | None) -> int:
     """Looks at so many changed texts and tells what was said of them. How many differ.
 
     A check that is given up at its limit isn't compared, nor one that has no end in a minute: these are counted.
     """
     answers: Counter[str] = Counter()
     wrong = 0
-    with ProcessPoolExecutor() as pool:
+    with ProcessPoolExecutor(jobs) as pool:
         seeds = range(seed, seed + count)
-        for said, other, at in pool.map(Oracle.look, repeat(oracle), seeds, repeat(is_infinite), chunksize=8):
+        for said, other, at in pool.map(Oracle.look, repeat(oracle), seeds, repeat(kind), chunksize=8):
             is_given_up = "no end" in (said, other) or said == "no 8 Limit"
-            answers["not compared" if is_given_up else kind_of(said)] += 1
+            answers["not compared" if is_given_up else answer_of(said)] += 1
             if said != other and not is_given_up:
                 wrong += 1
                 print(f"seed {at}: {said!r}, and by coq/ {other!r}", flush=True)
     told = ", ".join(f"{number} {answer}" for answer, number in sorted(answers.items()))
-    print(f"{count} changed texts {'with' if is_infinite else 'without'} tracks: {told}; {wrong} differ", flush=True)
+    print(f"{count} changed texts {kind}: {told}; {wrong} differ", flush=True)
     return wrong

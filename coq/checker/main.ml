@@ -12,6 +12,10 @@ let help =
    and of one of an infinite quotient, which begins with `mqi`, that of `misere infinite`:\n\
   \    infinite CODE heaps LAST [without HEAPS]\n\
   \    no                       it isn't accepted; the fault isn't told\n\
+   and of one of a whole game, which begins with `mqw`, that of `misere infinite` too:\n\
+  \    infinite CODE whole\n\
+  \    no 1 Text                it is no such text\n\
+  \    no 33 Undecided          it isn't seen to be right\n\
    Of several files each line has the file's name and a tab before it. There is no limit: `no 8 Limit` is\n\
    never said.\n\n\
    The status is 0 if all are accepted, 1 if one isn't, 2 if no file is named, 3 if one can't be read or stack or\n\
