@@ -9,13 +9,11 @@ use Rattle.misere_theory.proofs.LabelLaws.{split}
 use Rattle.misere_theory.proofs.LocalRule.{right_by_rule, true_or_false}
 use Rattle.kept_positions.specs.Kept.{IsBadBeside, IsMovable}
 use Rattle.kept_positions.specs.Presented.{AreTestedLabels}
-use Rattle.kept_positions.proofs.NoneBad.{none_is_bad}
 use Rattle.kept_positions.proofs.Movable.{ended_label, rest_of}
 
 module _
     {L : Type 0} (IsLabel : L → Type 0) (heap : ℕ → Type 0) (code : List ℕ) (c : LabelClaim L)
-    (weight : ℕ → ℕ) (kept : List ℕ → Type 0)
-    (t : AreTestedLabels IsLabel heap code c weight kept) where
+    (t : AreTestedLabels IsLabel heap code c) where
   -- a position that is said to be P has options, and none of them is said to be
   moves_from_p : (X : List ℕ) → IsPosition heap X → says_by c X ≡ true
       → ((Y : List ℕ) × Move code X Y) × ((Y : List ℕ) → Move code X Y → says_by c Y ≡ false)
@@ -49,7 +47,7 @@ module _
       ) in
       let r = rest_of IsLabel c t.monoid heap t.labels code t.part t.idle c.one X t.monoid.some p bad in
       let (n, Z, e) = r.some some.0 some.1 in
-      none_is_bad IsLabel c t.monoid heap t.labels code t.part weight kept t.keeps n Z
+      t.never_bad n Z
       (subst (IsPosition (IsMovable heap code)) e r.in_rest) (subst (IsBadBeside code c c.one) e r.bad)
 
   obeyed : (X : List ℕ) → IsPosition heap X → ObeysRule code (says_by c) X

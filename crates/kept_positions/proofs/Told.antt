@@ -35,11 +35,11 @@ module _
   same x y p q all = same_below (suc (height x y)) x y (omega arith) p q all
 
 pub represented : {L : Type 0} (IsLabel : L → Type 0) (heap : ℕ → Type 0) (code : List ℕ) (c : LabelClaim L)
-    (weight : ℕ → ℕ) (kept : List ℕ → Type 0) (height : L → L → ℕ)
-    → AreTestedLabels IsLabel heap code c weight kept
+    (height : L → L → ℕ)
+    → AreTestedLabels IsLabel heap code c
     → AreToldOrLowered IsLabel c height
     → ((x : L) → IsLabel x → (X : List ℕ) × IsPosition heap X × (label_of c X ≡ x))
     → RepresentsBy IsLabel heap code c
-represented IsLabel heap code c weight kept height t told reached =
-    represents_by IsLabel c t.monoid heap t.labels code (predicted IsLabel heap code c weight kept t) reached
+represented IsLabel heap code c height t told reached =
+    represents_by IsLabel c t.monoid heap t.labels code (predicted IsLabel heap code c t) reached
     (same IsLabel c t.monoid height told)

@@ -39,3 +39,9 @@ pub record AreKept {L : Type 0} (IsLabel : L → Type 0) (heap : ℕ → Type 0)
       → IsBadBeside code c c.one (n ∷ Z) → ⊥
   pub closed : (n : ℕ) (Z : List ℕ) → IsPosition (IsMovable heap code) (n ∷ Z) → kept Z
       → kept (n ∷ Z) ⊎ IsCoveredBy IsLabel heap code c weight (n ∷ Z)
+
+-- No position of heaps with options, but the empty one, is bad beside nothing.
+abbrev pub AreNeverBad : {L : Type 0} → (ℕ → Type 0) → List ℕ → LabelClaim L → Type 0
+AreNeverBad heap code c =
+    (n : ℕ) (Z : List ℕ) → IsPosition (IsMovable heap code) (n ∷ Z)
+    → IsBadBeside code c c.one (n ∷ Z) → ⊥

@@ -15,7 +15,7 @@ ghost use Rattle.std.specs.Prelude.{◌≡◌, ◌↔◌, ◌++◌, ℕ, Bool, t
 ghost use Rattle.misere_theory.specs.Games.{IsPosition};
 ghost use Rattle.misere_theory.specs.Parts.{IsPart};
 ghost use Rattle.misere_theory.specs.Labels.{LabelClaim, AreLabels, label_of, says_by, PredictsOutcomes, RepresentsBy};
-ghost use Rattle.kept_positions.specs.Kept.{IsBadBeside};
+ghost use Rattle.kept_positions.specs.Kept.{IsBadBeside, AreKept, AreNeverBad};
 ghost use Rattle.kept_positions.specs.Telling.{AreToldOrLowered};
 ghost use Rattle.kept_positions.specs.Presented.{AreTestedLabels};
 
@@ -33,12 +33,22 @@ pub fn sums_are_bad_in_both_parts<Label>()
         × IsBadBeside code c (c.times x (label_of c X)) Y) }
 {}
 
-/// Claims that pass their tests are right of each position of their heaps. No position that has an option is
-/// bad beside nothing: a lightest one would have a part that is covered, and so wouldn't be a lightest one.
-pub fn kept_positions_predict<Label>()
+/// If positions are kept, none but the empty one is bad beside nothing: a lightest one would have a part that
+/// is covered, and so wouldn't be a lightest one.
+pub fn kept_positions_are_enough<Label>()
     ensures { (labels : Label → Bool) (heaps : ℕ → Bool) (code : List ℕ) (c : LabelClaim Label)
         (weight : ℕ → ℕ) (kept : List ℕ → Bool)
-        → AreTestedLabels (λ x. labels x ≡ true) (λ n. heaps n ≡ true) code c weight (λ Z. kept Z ≡ true)
+        → IsPart (λ n. heaps n ≡ true) code
+        → AreLabels (λ x. labels x ≡ true) c.one c.times
+        → ((n : ℕ) → heaps n ≡ true → labels (c.label n) ≡ true)
+        → AreKept (λ x. labels x ≡ true) (λ n. heaps n ≡ true) code c weight (λ Z. kept Z ≡ true)
+        → AreNeverBad (λ n. heaps n ≡ true) code c }
+{}
+
+/// Claims that pass their tests are right of each position of their heaps.
+pub fn tested_labels_predict<Label>()
+    ensures { (labels : Label → Bool) (heaps : ℕ → Bool) (code : List ℕ) (c : LabelClaim Label)
+        → AreTestedLabels (λ x. labels x ≡ true) (λ n. heaps n ≡ true) code c
         → PredictsOutcomes (λ n. heaps n ≡ true) code (says_by c) }
 {}
 
@@ -46,8 +56,8 @@ pub fn kept_positions_predict<Label>()
 /// position, then they are the misère quotient.
 pub fn tested_labels_are_the_quotient<Label>()
     ensures { (labels : Label → Bool) (heaps : ℕ → Bool) (code : List ℕ) (c : LabelClaim Label)
-        (weight : ℕ → ℕ) (kept : List ℕ → Bool) (height : Label → Label → ℕ)
-        → AreTestedLabels (λ x. labels x ≡ true) (λ n. heaps n ≡ true) code c weight (λ Z. kept Z ≡ true)
+        (height : Label → Label → ℕ)
+        → AreTestedLabels (λ x. labels x ≡ true) (λ n. heaps n ≡ true) code c
         → AreToldOrLowered (λ x. labels x ≡ true) c height
         → ((x : Label) → labels x ≡ true
         → (X : List ℕ) × IsPosition (λ n. heaps n ≡ true) X × (label_of c X ≡ x))
