@@ -376,6 +376,53 @@ def run_on(program: str, words: str, folder: pathlib.Path, device: str) -> subpr
             os.close(put)
 
 
+# The lines that a text may leave out, and those that go on for as long as numbers come
+OPTIONAL, OPEN = ("track", "region"), ("portion", "base", "up", "down", "track")
+
+
+def table_of(text: str) -> str:
+    """The table of a certificate: its lines without keys and separators."""
+    lines = [it for it in text.splitlines() if it.split()[0] not in ("mqc", "words", "apart")]
+    return "\n".join(["table 1", *(f"heaps{it[3:]}" if it.startswith("phi") else it for it in lines)]) + "\n"
+
+
+def texts_of_kinds() -> list[list[str]]:
+    """The lines of one text of each kind."""
+    names = ("0.33.mqc", "0.354_heaps_5.mqi", "0.734.mqw")
+    texts = [sample(it).decode() for it in names]
+    return [it.splitlines() for it in (*texts, table_of(texts[0]))]
+
+
+def wanted_at(lines: list[str], at: int) -> str:
+    """The first word of a line, or, of one that may be left out, that of the next line of another kind."""
+    words = [it.split()[0] for it in lines]
+    while words[at] in OPTIONAL and words[at + 1] == words[at]:
+        at += 1
+    return f'"{words[at + 1 if words[at] in OPTIONAL else at]}"' if at else "mqc, mqi, mqw or table"
+
+
+def damaged(lines: list[str], at: int) -> Iterator[tuple[list[str], str]]:
+    """A text with another first word in a line, without that line and all after it, and with a word more in it; and how
+    the line that is printed begins."""
+    word, rest = lines[at].split()[0], lines[at].partition(" ")[2]
+    yield [*lines[:at], f"x {rest}", *lines[at + 1 :]], f'line {at + 1}: "x" in place of {wanted_at(lines, at)}\n'
+    yield lines[:at], f"line {at + 1}: the end of the text in place of {wanted_at(lines, at)}\n" if at else "no byte\n"
+    more = '"x" in place of a number up to ' if word in OPEN else "a space in place of the end of the line\n"
+    yield [*lines[:at], f"{lines[at]} x", *lines[at + 1 :]], f"line {at + 1}: {more}"
+
+
+def damages() -> list[tuple[list[str], str]]:
+    return [it for lines in texts_of_kinds() for at in range(len(lines)) for it in damaged(lines, at)]
+
+
+def explained_texts(program: str, _: pathlib.Path, runs: Runs) -> Iterator[str]:
+    """Each line of a text of each kind, damaged in three ways."""
+    for lines, begins in damages():
+        run = runs.run([program, "explain"], "".join(f"{it}\n" for it in lines).encode())
+        if run.status != 1 or not run.printed.startswith(begins.encode()):
+            yield f"prints {run.printed!r}, not {begins!r}"
+
+
 def made_rows() -> Iterator[Made]:
     """All of them, those that take longest first."""
     yield Made("large refusals", 10, large_refusals)
@@ -393,4 +440,5 @@ def made_rows() -> Iterator[Made]:
     yield Made("long lines", 7, long_lines)
     yield Made("bytes that are no text", 3, bytes_that_are_no_text)
     yield Made("explained words", len(EXPLAINED), explained_words)
+    yield Made("explained texts", len(damages()), explained_texts)
     yield Made("failing devices", len(READING) + len(WRITING) + len(OF_FILES) + 1, failing_devices)

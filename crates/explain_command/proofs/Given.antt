@@ -1,45 +1,28 @@
 -- What is said of the front of a text is said of all of it.
-use Rattle.std.proofs.Common.{◌≡◌, ◌≤◌, ◌<◌, ◌+◌, ◌∙◌, ℕ, Bool, true, false, List, Result, Ok, Err, IfOk, arith, inl, inr, length, subst, sym}
+use Rattle.std.proofs.Common.{◌≡◌, ◌≤◌, ◌<◌, ◌+◌, ◌∙◌, ℕ, Bool, true, false, List, arith, inl, inr, length, subst, sym}
 use Rattle.std.proofs.lemmas.Bool.{cases_lt}
 use Rattle.std.proofs.lemmas.List.{length-take-le, take_all}
-use Rattle.misere_theory.specs.Certificates.{Certificate}
+use Rattle.misere_theory.specs.Certificates.{Certificate as MqcSaid}
 use Rattle.certificate_text.specs.Spelling.{Spells}
 use Rattle.verdict_texts.specs.declared.stream.TheConstants.{MOST_BYTES}
 use Rattle.check_command.specs.Checks.{IsFrontOf}
-use Rattle.explain_command.specs.Explained.{Explains, ExplainsGiven, IsAnswerOf, TellsFault}
-use Rattle.explain_command.specs.Explained.TellsFault.{HasFault, IsLong, IsUnknown}
+use Rattle.explain_command.specs.Explained.{Explains, ExplainsGiven, SpellsKind}
+use Rattle.explain_command.specs.declared.kinds.Kind.TheVariants.{Certificate}
 
-pub if_ok : {T E : Type 0} {P Q : T → Type 0} (r : Result T E) → ((t : T) → P t → Q t) → IfOk r P
-    → IfOk r Q
-if_ok (Ok t) f h = f t h
-if_ok (Err e) f h = h
+abbrev pub AreShort : Type 0
+AreShort = (bytes : List ℕ) (c : MqcSaid) → Spells bytes c → length bytes ≤ MOST_BYTES
 
-pub refuses : (bytes text told : List ℕ) (is succeeds : Bool) → IsAnswerOf bytes is → is ≡ false
-    → TellsFault bytes told → text ≡ told → succeeds ≡ false → Explains bytes text succeeds
-refuses bytes text told is succeeds answer none tells same fails =
-    subst (λ (b : Bool). Explains bytes text b) (sym fails) (
-      subst (λ (b : Bool). IsAnswerOf bytes b) none answer,
-      subst (λ (t : List ℕ). TellsFault bytes t) (sym same) tells,
-    )
-
-abbrev AreShort : Type 0
-AreShort = (bytes : List ℕ) (c : Certificate) → Spells bytes c → length bytes ≤ MOST_BYTES
-
-long_tells : (front bytes text : List ℕ) → MOST_BYTES < length front → MOST_BYTES < length bytes
-    → TellsFault front text → TellsFault bytes text
-long_tells front bytes text long more (IsLong m e) = IsLong more e
-long_tells front bytes text long more (HasFault f few h e) = absurd (omega (arith, long, few))
-long_tells front bytes text long more (IsUnknown few plain e) = absurd (omega (arith, long, few))
+no_certificate : AreShort → (bytes : List ℕ) → MOST_BYTES < length bytes
+    → SpellsKind Certificate bytes → ⊥
+no_certificate short bytes long s =
+    let few = short bytes s.0 s.1 in omega (arith, long, few)
 
 long_explains : AreShort → (front bytes text : List ℕ) (succeeds : Bool) → MOST_BYTES < length front
-    → MOST_BYTES < length bytes → Explains front text succeeds
-    → Explains bytes text succeeds
-long_explains short front bytes text true long more h =
-    absurd (let few = short front h.0 h.1 in omega (arith, long, few))
-long_explains short front bytes text false long more h = (
-  (λ c s. let few = short bytes c s in omega (arith, more, few)),
-  long_tells front bytes text long more h.1,
-)
+    → MOST_BYTES < length bytes → Explains front text succeeds → Explains bytes text succeeds
+long_explains short front bytes text true long more h = absurd (omega (arith, long, h.0))
+long_explains short front bytes text false long more (inl h) = absurd (omega (arith, long, h.0))
+long_explains short front bytes text false long more (inr h) =
+    inr (more, no_certificate short bytes more, h.2)
 
 pub explains_given : AreShort → (Are : List ℕ → Type 0) (front text : List ℕ) (succeeds : Bool)
     → IsFrontOf Are front → Explains front text succeeds → ExplainsGiven Are text succeeds

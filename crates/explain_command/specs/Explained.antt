@@ -1,99 +1,56 @@
--- The line that `explain` prints. This project's own.
-use Rattle.std.specs.Prelude.{◌≡◌, ◌<◌, ◌≤◌, ◌==◌, ℕ, Bool, true, false, List, ◌++◌, if◌then◌else◌, codes, decimal, length}
-use Rattle.misere_theory.specs.Certificates.{Certificate}
+-- What `explain` prints. This project's own.
+use Rattle.std.specs.Prelude.{◌≡◌, ◌<◌, ◌≤◌, ◌⊎◌, Bool, true, false, ℕ, List, codes, length}
+use Rattle.misere_theory.specs.Certificates.{Certificate as MqcSaid}
 use Rattle.certificate_text.specs.Spelling.{Spells}
+use Rattle.tracked_text.specs.Said.{Said as MqiSaid}
+use Rattle.tracked_text.specs.Spelling.{Spells as SpellsTracked}
+use Rattle.dominance_text.specs.Said.{DominanceSaid}
+use Rattle.dominance_text.specs.Spelling.{SpellsDominance}
+use Rattle.own_tables.specs.Tables.{Own}
+use Rattle.own_tables.specs.Texts.{SpellsTable}
 use Rattle.verdict_texts.specs.declared.stream.TheConstants.{MOST_BYTES}
-use Rattle.text_faults.specs.Faults.{IsFault, IsPlainText, name_at}
-use Rattle.text_faults.specs.declared.fault.WrittenFault.{WrittenFault}
-use Rattle.text_faults.specs.declared.fault.WrittenFault.TheVariants.{Empty, NoEnd, Unfinished, Byte, Blank, Space, Name, Other, Words, Rows, Behind}
+use Rattle.explain_command.specs.declared.kinds.Kind.{Kind}
+use Rattle.explain_command.specs.declared.kinds.Kind.TheVariants.{Certificate, Tracked, Whole, Table}
+use Rattle.explain_command.specs.declared.kinds.Seen.{Seen}
+use Rattle.explain_command.specs.declared.kinds.Seen.TheVariants.{Is, Not}
 
--- ---- lines of faults
+-- The bytes are a text of this kind.
+abbrev pub SpellsKind : Kind → List ℕ → Type 0
+SpellsKind Certificate bytes = (c : MqcSaid) × Spells bytes c
+SpellsKind Tracked bytes = (c : MqiSaid) × SpellsTracked bytes c
+SpellsKind Whole bytes = (c : DominanceSaid) × SpellsDominance bytes c
+SpellsKind Table bytes = (o : Own) × SpellsTable bytes o
 
-abbrev pub carriage_return_line : ℕ → List ℕ
-carriage_return_line line =
-    codes "line " ++ (decimal line ++ codes ": a carriage return\n")
+-- whether they are
+abbrev pub IsAnswerOf : Kind → List ℕ → Bool → Type 0
+IsAnswerOf kind bytes true = SpellsKind kind bytes
+IsAnswerOf kind bytes false = SpellsKind kind bytes → ⊥
 
-abbrev pub tab_line : ℕ → List ℕ
-tab_line line =
-    codes "line " ++ (decimal line ++ codes ": a tab\n")
+-- what kind they are, or that they are of none
+abbrev pub IsSeen : List ℕ → Seen → Type 0
+IsSeen bytes (Is kind) = SpellsKind kind bytes
+IsSeen bytes (Not furthest) = (kind : Kind) → SpellsKind kind bytes → ⊥
 
-abbrev pub other_byte_line : ℕ → ℕ → List ℕ
-other_byte_line line byte =
-    codes "line " ++ (decimal line ++ (codes ": the byte " ++ (decimal byte ++ codes ", which no text has\n")))
+-- The line that names a kind, and the command that reads it.
+abbrev pub kind_line : Kind → List ℕ
+kind_line Certificate = codes "a certificate's text\n"
+kind_line Tracked = codes "the text of a certificate with tracks: misere infinite checks it\n"
+kind_line Whole = codes "the text of a whole game: misere infinite checks it\n"
+kind_line Table = codes "the text of a table: misere certify reads it\n"
 
-abbrev pub byte_line : ℕ → ℕ → List ℕ
-byte_line line byte =
-    if byte == 13 then carriage_return_line line else if byte == 9 then tab_line line else other_byte_line line byte
+-- The bytes are more than are read, and so no certificate's text.
+abbrev pub IsLong : List ℕ → List ℕ → Type 0
+IsLong bytes text =
+    (MOST_BYTES < length bytes) × (SpellsKind Certificate bytes → ⊥)
+    × (text ≡ codes "more than 4194304 bytes\n")
 
-abbrev pub blank_line : ℕ → List ℕ
-blank_line line =
-    codes "line " ++ (decimal line ++ codes ": empty\n")
-
-abbrev pub space_line : ℕ → List ℕ
-space_line line =
-    codes "line " ++ (decimal line ++ codes ": a space at its beginning or end, or two together\n")
-
-abbrev pub name_line : ℕ → List ℕ
-name_line line =
-    codes "line " ++ (decimal line ++ (codes ": its first word isn't " ++ (name_at line ++ codes "\n")))
-
-abbrev pub other_line : ℕ → List ℕ
-other_line line =
-    codes "line " ++ (decimal line ++ codes ": its first word isn't row, apart or end\n")
-
-abbrev pub words_line : (line found wanted : ℕ) → List ℕ
-words_line line found wanted =
-    codes "line " ++ (decimal line ++ (codes ": words after its name: " ++ (decimal found ++ (codes ", not " ++ (decimal wanted ++ codes "\n")))))
-
-abbrev pub rows_line : (line found wanted : ℕ) → List ℕ
-rows_line line found wanted =
-    codes "line " ++ (decimal line ++ (codes ": rows before it: " ++ (decimal found ++ (codes ", not " ++ (decimal wanted ++ codes "\n")))))
-
-abbrev pub behind_line : ℕ → List ℕ
-behind_line line =
-    codes "line " ++ (decimal line ++ codes ": it comes after the line \"end\"\n")
-
-abbrev pub fault_line : WrittenFault → List ℕ
-fault_line Empty = codes "no byte\n"
-fault_line NoEnd = codes "the last line has no end\n"
-fault_line Unfinished = codes "the last line isn't \"end\"\n"
-fault_line (Byte line byte) = byte_line line byte
-fault_line (Blank line) = blank_line line
-fault_line (Space line) = space_line line
-fault_line (Name line) = name_line line
-fault_line (Other line) = other_line line
-fault_line (Words line found wanted) = words_line line found wanted
-fault_line (Rows line found wanted) = rows_line line found wanted
-fault_line (Behind line) = behind_line line
-
--- ---- what is said
-
-abbrev pub IsNoText : List ℕ → Type 0
-IsNoText bytes = (c : Certificate) → Spells bytes c → ⊥
-
--- the bytes are a certificate's text, or aren't
-abbrev pub IsAnswerOf : List ℕ → Bool → Type 0
-IsAnswerOf bytes true = (c : Certificate) × Spells bytes c
-IsAnswerOf bytes false = IsNoText bytes
-
--- The line says what is wrong with the bytes, and that is so; or that nothing was found, and then they
--- are a plain text.
-pub data TellsFault (bytes text : List ℕ) : Type 0 where
-  IsLong : MOST_BYTES < length bytes → text ≡ codes "more than 4194304 bytes\n"
-      → TellsFault bytes text
-  HasFault : (fault : WrittenFault) → length bytes ≤ MOST_BYTES → IsFault bytes fault
-      → text ≡ fault_line fault
-      → TellsFault bytes text
-  IsUnknown : length bytes ≤ MOST_BYTES → IsPlainText bytes
-      → text ≡ codes "not a certificate's text, and none of the faults that are looked for\n"
-      → TellsFault bytes text
-
--- The bytes are a certificate's text, which the line says; or they are none, and the line says what
--- is wrong with them.
+-- The bytes are a text of the kind that the line names; or they are a text of no kind, and why is only
+-- tested; or there are more of them than are read.
 abbrev pub Explains : List ℕ → List ℕ → Bool → Type 0
 Explains bytes text true =
-    (c : Certificate) × Spells bytes c × (text ≡ codes "a certificate's text\n")
-Explains bytes text false = IsNoText bytes × TellsFault bytes text
+    (length bytes ≤ MOST_BYTES) × ((kind : Kind) × SpellsKind kind bytes × (text ≡ kind_line kind))
+Explains bytes text false =
+    ((length bytes ≤ MOST_BYTES) × ((kind : Kind) → SpellsKind kind bytes → ⊥)) ⊎ IsLong bytes text
 
 -- the same of the bytes that are given
 abbrev pub ExplainsGiven : (List ℕ → Type 0) → List ℕ → Bool → Type 0

@@ -1,61 +1,42 @@
-//! `explain`: why the text of a file is no certificate's.
-ghost use Rattle.std.specs.Prelude.{◌≡◌, false, IfOk, IfErr, is_none, is_some, option_map};
-ghost use Rattle.std.specs.String.{string_bytes};
+//! `explain`: what kind of text a file has, or why it is none.
+ghost use Rattle.std.specs.Prelude.{◌≡◌, ◌≤◌, false, length, IfOk, IfErr, is_none, is_some, option_map};
 ghost use Rattle.check_command.specs.Checks.{AreGiven, IsGivenCause, failed};
-ghost use Rattle.explain_command.specs.Explained.{Explains, ExplainsGiven, IsAnswerOf, TellsFault};
+ghost use Rattle.verdict_texts.specs.declared.stream.TheConstants.{MOST_BYTES};
+ghost use Rattle.explain_command.specs.Explained.{Explains, ExplainsGiven};
 
-use crate::lines::fault_text;
+use crate::kinds::{Seen, kind_of};
+use crate::stops::stop_text;
 use allocation::Memory;
-use certificate::{TextFault, read};
 use check_command::{fronts_decide, given_bytes};
 use command_results::{Said, Stop};
 use folders::Folder;
-use std::alloc::{AllocError, Global};
+use std::alloc::Global;
 use streams::Source;
-use text_faults::{faults_refuse, text_fault};
 use verdict_texts::MOST_BYTES;
-
-/// The line of a text that isn't a certificate's.
-fn refusal_text(alloc: Global, bytes: &[u8]) -> Result<String, AllocError>
-    ensures { IfOk result (λ t. TellsFault bytes.now (string_bytes t)) }
-{
-    if bytes.len() > MOST_BYTES {
-        return String::from_str(alloc, "more than 4194304 bytes\n");
-    }
-    match text_fault(bytes) {
-        Some(fault) => fault_text(alloc, fault),
-        None => String::from_str(
-            alloc,
-            "not a certificate's text, and none of the faults that are looked for\n",
-        ),
-    }
-}
-
-/// Whether the bytes are a certificate's text.
-fn is_text(alloc: Global, bytes: &[u8]) -> Result<bool, Memory>
-    ensures { IfOk result (IsAnswerOf bytes.now) }
-{
-    match read(alloc, bytes) {
-        Ok(_) => Ok(true),
-        Err(TextFault::Text) => Ok(false),
-        Err(TextFault::Memory) => Err(Memory),
-    }
-}
 
 /// What is said of the bytes.
 fn explained(alloc: Global, bytes: &[u8]) -> Result<Said, Memory>
     ensures { IfOk result (λ s. Explains bytes.now s.text.items s.succeeds) }
 {
-    if is_text(alloc, bytes)? {
-        let text = String::from_str(alloc, "a certificate's text\n")?;
-        return Ok(Said::done(text));
+    fronts_decide();
+    if bytes.len() > MOST_BYTES {
+        let text = String::from_str(alloc, "more than 4194304 bytes\n")?;
+        return Ok(Said::no(text.into_bytes()));
     }
-    let text = refusal_text(alloc, bytes)?;
-    Ok(Said::no(text.into_bytes()))
+    match kind_of(alloc, bytes)? {
+        Seen::Is(kind) => {
+            let text = kind.text(alloc)?;
+            Ok(Said::done(text))
+        }
+        Seen::Not(furthest) => {
+            let text = stop_text(alloc, bytes, furthest)?;
+            Ok(Said::no(text.into_bytes()))
+        }
+    }
 }
 
-/// Says why the text in the file, or on standard input where no file is named, is no certificate's:
-/// the first of some faults, with its line. Of a certificate's text it says that it is one, which
+/// Says what kind of text the file has, or standard input where no file is named, and which command
+/// reads it; or where the reader that came furthest stopped, and what it wanted there. Of a text it
 /// says nothing of the check. Whichever of the two isn't read is left alone.
 pub fn explain<'a, F: Folder, S: Source>(
     alloc: Global,

@@ -1,7 +1,9 @@
-//! `explain`: why a text is no certificate's.
+//! `explain`: what kind of text a file has, or why it is none.
 #![tactic(auto)]
 
 mod explaining;
-mod lines;
+mod kinds;
+mod stops;
 
 pub use explaining::explain;
+pub use kinds::Kind;

@@ -1,7 +1,0 @@
-mod Cuts
-mod Orders
-mod Passed
-mod Words
-mod Lines
-mod Ends
-mod Refused
