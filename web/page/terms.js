@@ -29,7 +29,7 @@ export const TERMS = {
       "On each track a heap has two weights, its down and its up. The sums of both, of which large ones are folded " +
       "together, say with the element whether a position is P.",
   "Base": "The position beside which an up and a down cancel.",
-  "Up": "Heaps that are added: any two of base, base + up, base + 2·up, .. are told apart.",
+  "Up": "Heaps that are added: base, base + up, base + 2·up, .. are pairwise distinguishable.",
   "Down": "Heaps that undo an up beside the base, as far as outcomes go.",
   "Parity": "A position is odd if it has an odd number of odd heaps.",
   "Weight": "A number of each heap. A position has the sum of these of its heaps.",

@@ -10,7 +10,8 @@
  * @property {string} text
  * @property {number} order how many elements its monoid has
  * @property {number} tracks how many tracks it has
- * @property {number[]} base three positions: base, base + up, base + 2 up, .. are told apart, and downs undo ups
+ * @property {number[]} base three positions: base, base + up, base + 2 up, .. are pairwise distinguishable, and downs
+ * undo ups
  * @property {number[]} up
  * @property {number[]} down
  *

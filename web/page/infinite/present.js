@@ -119,8 +119,7 @@ function familySection(oracle, name, certificate) {
       [" + ", make("i", {}, letter), heaps.length > 1 ? ` · (${writtenOf(heaps)})` : ` · ${writtenOf(heaps)}`];
   const said = make(
       "p", {}, "The positions ", writtenOf(base), term("j", up), term("k", down),
-      ": of base, base + up, " +
-          "base + 2·up, .. each two are told apart by some position.");
+      ": base, base + up, base + 2·up, .. are pairwise distinguishable.");
   return make(
       "section", {}, make("h2", {}, "Its family"), said,
       make("div", {class: "pictures"}, familyPicture(oracle, name, certificate)));
