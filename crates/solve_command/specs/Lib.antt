@@ -1,2 +1,3 @@
-pub mod Many
+pub mod Searches
 pub mod Solved
+pub mod Many

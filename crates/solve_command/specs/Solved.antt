@@ -1,20 +1,14 @@
--- What a search says. This project's own.
-use Rattle.std.specs.Prelude.{◌≡◌, ◌≢◌, ◌⊎◌, ⊤, ◌≤◌, ◌<◌, ℕ, Bool, true, false, List, ◌++◌, length, Option, Some, None, Result, Ok, Err, codes, decimal}
-use Rattle.misere_theory.specs.Certificates.{Certificate, Accepted, kind_of}
-use Rattle.misere_theory.specs.declared.TheConstants.{LARGEST_PART}
+-- What a search says, over proposers. This project's own.
+use Rattle.std.specs.Prelude.{◌≡◌, ⊤, ℕ, Bool, List, length, Option, Result}
+use Rattle.misere_theory.specs.Certificates.{Certificate}
 use Rattle.octal_code.specs.Text.{IsCodeText}
-use Rattle.certificate_text.specs.Spelling.{Spells}
 use Rattle.command_results.specs.declared.stop.Stop.{Stop}
 use Rattle.command_results.specs.declared.stop.Stop.TheVariants.{Memory, NotACode}
-use Rattle.quotient_search.specs.declared.aim.Reason.{Reason}
-use Rattle.quotient_search.specs.declared.aim.Reason.TheVariants.{TooLarge, Repairs, Work, NoPeriod, OneElement, Members, Refused}
 use Rattle.quotient_finder.specs.Histories.{Events}
 use Rattle.quotient_finder.specs.Rounds.{HasSearched}
 use Rattle.quotient_finder.specs.declared.gave_up.GaveUp.{GaveUp}
-use Rattle.quotient_finder.specs.declared.gave_up.GaveUp.TheVariants.{Rounds, Empty, Memory as NoMemory}
-use Rattle.requests.specs.declared.plans.Aim.{Aim}
-use Rattle.requests.specs.declared.plans.Aim.TheVariants.{Whole, Deep, Any, Part, Furthest}
 use Rattle.requests.specs.declared.plans.SolveBounds.{SolveBounds}
+use Rattle.solve_command.specs.Searches.{IsSearchedBy, WasGivenUpBy, IsFoundBy, ComesToBy, SolvesBy}
 
 -- the text isn't a code's
 abbrev pub IsNoCode : List ℕ → Type 0
@@ -26,21 +20,6 @@ IsSolveCause text Memory = ⊤
 IsSolveCause text NotACode = IsNoCode text
 IsSolveCause text _ = ⊥
 
--- a certificate of this kind is aimed at: a full one, that of the heaps 1 to M, that of some first
--- heaps, or any of these
-abbrev pub IsAimedAt : Aim → ℕ → Type 0
-IsAimedAt (Whole heaps) kind = kind ≡ 0
-IsAimedAt Deep kind = kind ≡ 0
-IsAimedAt Any kind = kind ≤ LARGEST_PART
-IsAimedAt (Part last) kind = kind ≡ last
-IsAimedAt Furthest kind = (1 ≤ kind) × (kind ≤ LARGEST_PART)
-
--- The certificate is accepted, and is one of this code and of a kind that is aimed at.
-pub record IsAskedFor (code : List ℕ) (aim : Aim) (c : Certificate) : Type 0 where
-  pub of_code : c.code ≡ code
-  pub of_kind : IsAimedAt aim (kind_of c)
-  pub accepted : Accepted c
-
 -- What a search for a certificate of the code and kind came to, over so many proposers, in at most so
 -- many rounds, with this limit of each check.
 pub record HasAsked (code : List ℕ) (kind many limit rounds : ℕ) (came : Result Certificate GaveUp)
@@ -50,117 +29,18 @@ pub record HasAsked (code : List ℕ) (kind many limit rounds : ℕ) (came : Res
   pub count : length olds ≡ many
   pub searched : HasSearched code kind limit rounds olds news came
 
--- what a search for the whole game came to, within these bounds, over two proposers
-abbrev pub SearchesWhole : List ℕ → SolveBounds → Result Certificate GaveUp → Type 0
-SearchesWhole code bounds came = HasAsked code 0 2 bounds.limit bounds.rounds came
-
--- what a search for a part of the game came to, over one
-abbrev pub SearchesPart : List ℕ → SolveBounds → ℕ → Result Certificate GaveUp → Type 0
-SearchesPart code bounds last came = HasAsked code last 1 bounds.limit bounds.rounds came
-
--- what a search for some first heaps came to
-abbrev pub SearchesFurthest : List ℕ → SolveBounds → Result Certificate GaveUp → Type 0
-SearchesFurthest code bounds came = (last : ℕ) × (1 ≤ last) × (last ≤ LARGEST_PART)
-    × SearchesPart code bounds last came
-
--- the search was given up, or came to a certificate of more elements than are allowed
-abbrev pub HasMissed : ℕ → Result Certificate GaveUp → Type 0
-HasMissed order (Ok c) = order < c.order
-HasMissed order (Err NoMemory) = ⊥
-HasMissed order (Err why) = ⊤
-
--- What a search came to for the whole game, and, only if that missed, for some first heaps.
-pub data SearchesAny (code : List ℕ) (bounds : SolveBounds) (came : Result Certificate GaveUp)
-    : Type 0 where
-  OfWhole : SearchesWhole code bounds came → (HasMissed bounds.order came → ⊥)
-      → SearchesAny code bounds came
-  OfPart : (first : Result Certificate GaveUp) → SearchesWhole code bounds first
-      → HasMissed bounds.order first → SearchesFurthest code bounds came
-      → SearchesAny code bounds came
-
--- what a search for what is aimed at came to, within these bounds
-abbrev pub SearchesFor : Aim → List ℕ → SolveBounds → Result Certificate GaveUp → Type 0
-SearchesFor (Whole heaps) code bounds came = SearchesWhole code bounds came
-SearchesFor Deep code bounds came = SearchesWhole code bounds came
-SearchesFor Any code bounds came = SearchesAny code bounds came
-SearchesFor (Part last) code bounds came = SearchesPart code bounds last came
-SearchesFor Furthest code bounds came = SearchesFurthest code bounds came
-
+-- the same of what is made of such calls
 abbrev pub IsSearched : List ℕ → SolveBounds → Result Certificate GaveUp → Type 0
-IsSearched code bounds came = SearchesFor bounds.aim code bounds came
+IsSearched code bounds came = IsSearchedBy HasAsked code bounds came
 
--- The text spells an accepted certificate of the code, of a kind that is aimed at and of at most so
--- many elements as are allowed, to which the search came.
-pub record SpellsFound (code : List ℕ) (bounds : SolveBounds) (text : List ℕ) : Type 0 where
-  pub c : Certificate
-  pub asked_for : IsAskedFor code bounds.aim c
-  pub small : c.order ≤ bounds.order
-  pub searched : IsSearched code bounds (Ok c)
-  pub spelled : Spells text c
-
--- All rounds were spent, or the certificate that was found has more elements than are allowed.
-abbrev pub IsSpent : List ℕ → SolveBounds → Type 0
-IsSpent code bounds = IsSearched code bounds (Err Rounds)
-    ⊎ ((c : Certificate) × IsSearched code bounds (Ok c) × (bounds.order < c.order))
-
--- The search was given up, as what is told of it says.
 abbrev pub WasGivenUp : List ℕ → SolveBounds → Type 0
-WasGivenUp code bounds =
-    IsSpent code bounds ⊎ ((bounds.rounds ≢ 0) × IsSearched code bounds (Err Empty))
+WasGivenUp code bounds = WasGivenUpBy HasAsked code bounds
 
--- An accepted certificate of the code, of a kind that is aimed at and of at most so many elements as
--- are allowed, to which the search came.
-pub record IsFoundWithin (code : List ℕ) (bounds : SolveBounds) (c : Certificate) : Type 0 where
-  pub asked_for : IsAskedFor code bounds.aim c
-  pub small : c.order ≤ bounds.order
-  pub searched : IsSearched code bounds (Ok c)
+abbrev pub IsFoundWithin : List ℕ → SolveBounds → Certificate → Type 0
+IsFoundWithin code bounds c = IsFoundBy HasAsked code bounds c
 
--- what a search comes to: such a certificate, or it was given up
 abbrev pub ComesTo : List ℕ → SolveBounds → Option Certificate → Type 0
-ComesTo code bounds (Some c) = IsFoundWithin code bounds c
-ComesTo code bounds None = WasGivenUp code bounds
+ComesTo code bounds found = ComesToBy HasAsked code bounds found
 
--- the line that says why no proposer had a draft that was accepted, with numbers of heaps and of
--- elements
-abbrev pub reason_line : Reason → List ℕ
-reason_line (TooLarge heap) = codes "too large " ++ decimal heap ++ codes "\n"
-reason_line (Repairs heap order) =
-    codes "repairs " ++ decimal heap ++ codes " " ++ decimal order ++ codes "\n"
-reason_line (Work heap order) =
-    codes "work " ++ decimal heap ++ codes " " ++ decimal order ++ codes "\n"
-reason_line (NoPeriod heaps order) =
-    codes "no period " ++ decimal heaps ++ codes " " ++ decimal order ++ codes "\n"
-reason_line OneElement = codes "one element\n"
-reason_line Members = codes "members\n"
-reason_line Refused = codes "refused\n"
-
--- it is the line of some reason
-abbrev pub IsReasonLine : List ℕ → Type 0
-IsReasonLine line = (reason : Reason) × (line ≡ reason_line reason)
-
--- what is told where no proposer has a draft left, with the reason or without
-abbrev pub IsGivingUpText : Bool → List ℕ → Type 0
-IsGivingUpText true text = (line : List ℕ) × IsReasonLine line × (text ≡ codes "gave up 2 Empty\n" ++ line)
-IsGivingUpText false text = text ≡ codes "gave up 2 Empty\n"
-
--- what is told where all rounds were spent
-abbrev pub rounds_lines : Bool → List ℕ
-rounds_lines true = codes "gave up 1 Rounds\nrounds\n"
-rounds_lines false = codes "gave up 1 Rounds\n"
-
--- The text says how the search was given up, with the reason where that is asked for. Where no round
--- was asked for, all rounds were spent.
-abbrev pub TellsGivingUp : List ℕ → SolveBounds → List ℕ → Type 0
-TellsGivingUp code bounds text =
-    (IsSpent code bounds × (text ≡ rounds_lines bounds.tells_why))
-    ⊎ ((bounds.rounds ≢ 0) × IsSearched code bounds (Err Empty) × IsGivingUpText bounds.tells_why text)
-
--- what is said of a code, and whether a certificate was found
-abbrev pub Finds : List ℕ → SolveBounds → List ℕ → Bool → Type 0
-Finds code bounds text true = SpellsFound code bounds text
-Finds code bounds text false = TellsGivingUp code bounds text
-
--- The word is a code's, and the text is a certificate of it, or says how the search for one was
--- given up.
 abbrev pub Solves : List ℕ → SolveBounds → List ℕ → Bool → Type 0
-Solves word bounds text found = (code : List ℕ) × IsCodeText word code × Finds code bounds text found
+Solves word bounds text found = SolvesBy HasAsked word bounds text found

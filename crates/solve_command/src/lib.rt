@@ -3,9 +3,11 @@
 
 mod many;
 mod search;
+mod searches;
 mod solving;
 mod told;
 
 pub use many::{solve_lines, solve_many};
 pub use requests::SolveBounds;
-pub use solving::{certificate_for, solve, solve_bytes};
+pub use searches::{Proposing, Searched, Searches};
+pub use solving::{certificate_by, certificate_for, solve, solve_by, solve_bytes};

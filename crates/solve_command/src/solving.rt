@@ -2,9 +2,11 @@
 ghost use Rattle.std.specs.Prelude.{◌≡◌, ◌↔◌, IfOk, IfErr, IsErrOf};
 ghost use Rattle.octal_code.specs.Text.{IsCodeText};
 ghost use Rattle.certificate_text.specs.Spelling.{Spells};
-ghost use Rattle.solve_command.specs.Solved.{ComesTo, Finds, IsNoCode, IsSolveCause, Solves, rounds_lines};
+ghost use Rattle.solve_command.specs.Searches.{ComesToBy, FindsBy, SolvesBy, rounds_lines};
+ghost use Rattle.solve_command.specs.Solved.{ComesTo, IsNoCode, IsSolveCause, Solves};
 
-use crate::search::{Searched, search};
+use crate::search::search;
+use crate::searches::{Proposing, Searched, Searches};
 use crate::told::empty_text;
 use allocation::Memory;
 use answers::Certified;
@@ -32,8 +34,22 @@ pub fn solve_bytes(alloc: Global, word: &[u8], bounds: SolveBounds) -> Result<Sa
     ensures stops { IfErr result (IsSolveCause word.now) }
     ensures not_a_code { IsErrOf result Stop.NotACode ↔ IsNoCode word.now }
 {
+    solve_by(&Proposing, alloc, word, bounds)
+}
+
+/// The same by any search: what is said of it is what it came to.
+pub fn solve_by<S: Searches>(
+    by: &S,
+    alloc: Global,
+    word: &[u8],
+    bounds: SolveBounds,
+) -> Result<Said, Stop<'static>>
+    ensures says { IfOk result (λ s. SolvesBy S.has_asked word.now bounds s.text.items s.succeeds) }
+    ensures stops { IfErr result (IsSolveCause word.now) }
+    ensures not_a_code { IsErrOf result Stop.NotACode ↔ IsNoCode word.now }
+{
     let code = code_of(word)?;
-    let said = answer(alloc, &code, bounds)?;
+    let said = answer(by, alloc, &code, bounds)?;
     Ok(said)
 }
 
@@ -49,10 +65,15 @@ fn code_of(word: &[u8]) -> Result<Code, Stop<'static>>
 }
 
 /// The certificate that is found, or how the search was given up.
-fn answer(alloc: Global, code: &Code, bounds: SolveBounds) -> Result<Said, Memory>
-    ensures { IfOk result (λ s. Finds code.now bounds s.text.items s.succeeds) }
+fn answer<S: Searches>(
+    by: &S,
+    alloc: Global,
+    code: &Code,
+    bounds: SolveBounds,
+) -> Result<Said, Memory>
+    ensures { IfOk result (λ s. FindsBy S.has_asked code.now bounds s.text.items s.succeeds) }
 {
-    let Searched { came, reason } = search(alloc, code, bounds)?;
+    let Searched { came, reason } = search(by, alloc, code, bounds)?;
     match came {
         Ok(certified) if certified.cert().order() as u32 <= bounds.order => Ok(Said {
             text: spelling(alloc, &certified)?,
@@ -78,7 +99,19 @@ pub fn certificate_for(
 ) -> Result<Option<Certified>, Memory>
     ensures { IfOk result (ComesTo code.now bounds) }
 {
-    let Searched { came, reason: _ } = search(alloc, code, bounds)?;
+    certificate_by(&Proposing, alloc, code, bounds)
+}
+
+/// The same by any search.
+pub fn certificate_by<S: Searches>(
+    by: &S,
+    alloc: Global,
+    code: &Code,
+    bounds: SolveBounds,
+) -> Result<Option<Certified>, Memory>
+    ensures { IfOk result (ComesToBy S.has_asked code.now bounds) }
+{
+    let Searched { came, reason: _ } = search(by, alloc, code, bounds)?;
     match came {
         Ok(certified) if certified.cert().order() as u32 <= bounds.order => Ok(Some(certified)),
         Err(GaveUp::Memory) => Err(Memory),

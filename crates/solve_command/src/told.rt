@@ -1,6 +1,6 @@
 //! What is told of a search that was given up.
 ghost use Rattle.std.specs.Prelude.{◌≡◌, IfOk, false, string_bytes, true};
-ghost use Rattle.solve_command.specs.Solved.{IsGivingUpText, IsReasonLine, reason_line};
+ghost use Rattle.solve_command.specs.Searches.{IsGivingUpText, IsReasonLine, reason_line};
 
 use allocation::Memory;
 use proposers::Reason;

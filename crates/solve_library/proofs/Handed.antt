@@ -9,7 +9,8 @@ use Rattle.octal_code.specs.Text.{IsCodeText}
 use Rattle.requests.specs.declared.plans.Aim.{Aim}
 use Rattle.requests.specs.declared.plans.Aim.TheVariants.{Whole, Deep, Any, Part, Furthest}
 use Rattle.requests.specs.declared.plans.SolveBounds.{SolveBounds}
-use Rattle.solve_command.specs.Solved.{IsAimedAt, IsSearched, Solves}
+use Rattle.solve_command.specs.Searches.{IsAimedAt}
+use Rattle.solve_command.specs.Solved.{IsSearched, Solves}
 use Rattle.solve_library.specs.Found.{AreBounds, Certify, IsAim, IsCertificateFor, IsOfKind, IsUntold, IsUntoldOf, form_at}
 use Rattle.solve_library.specs.declared.causes.Untold.{Untold}
 use Rattle.solve_library.specs.declared.causes.Untold.TheVariants.{NotInRange}
