@@ -36,7 +36,7 @@ test("a text of another kind is told what it is", () => {
   for (const {name, bytes} of certificates) assert.equal(kindOfText(bytes), "", name);
 });
 
-/** Those of docs/MESSAGES.md, which `misere explain` prints. @type {[string, string][]} */
+/** Texts that docs/MESSAGES.md has too, with the same lines, in the page's words. @type {[string, string][]} */
 const EXPLAINED = [
   [good.replaceAll("\n", "\r\n"), "line 1: a carriage return"],
   ["", "no byte"],
