@@ -4,12 +4,12 @@ use Rattle.misere_theory.specs.Certificates.{Certificate}
 use Rattle.check_command.specs.Checks.{Finds, Checks}
 use Rattle.relations.specs.declared.finding.Form.{Form}
 use Rattle.requests.specs.declared.plans.Output.{Output}
-use Rattle.describe_command.specs.Described.{Describes, DescribesFound}
+use Rattle.describe_command.specs.Described.{Describes, DescribesFoundBy, HasMet}
 use Rattle.describe_command.specs.Described.Describes.{Quotient, NoQuotient}
 
 pub describes_found : {A : Type 0} (Are : List ℕ → Type 0) (limit : ℕ) (form : Form) (output : Output)
     (q : Result Certificate (Vec ℕ A)) (text : List ℕ) (succeeds : Bool) (told : Option (List ℕ))
-    → Finds Are limit q → DescribesFound q form output text succeeds told
+    → Finds Are limit q → DescribesFoundBy HasMet q form output text succeeds told
     → Describes Are limit form output text succeeds told
 describes_found Are limit form output (Ok c) text succeeds told f h = Quotient c f h
 describes_found Are limit form output (Err said) text succeeds told f h =

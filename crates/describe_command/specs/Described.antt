@@ -17,7 +17,7 @@ use Rattle.relations.specs.declared.fault.MetBound.{MetBound}
 use Rattle.relations.specs.declared.fault.Bound.{Bound}
 use Rattle.relations.specs.declared.fault.Bound.TheVariants as bound
 use Rattle.relations.specs.declared.fault.Undescribed.{Undescribed}
-use Rattle.relations.specs.declared.fault.Undescribed.TheVariants.{Bound as Met, Memory as NoMemory}
+use Rattle.relations.specs.declared.fault.Undescribed.TheVariants.{Bound as Told, Memory as NoMemory}
 use Rattle.requests.specs.declared.plans.Output.{Output}
 use Rattle.requests.specs.declared.plans.Output.TheVariants.{Description, Latex, Json, Relations, Singular, Gap}
 
@@ -32,14 +32,13 @@ bound_line bound.Letters = codes "not described within 26 generators\n"
 bound_line bound.Exponents = codes "not described within exponents of 64\n"
 bound_line bound.Unshown = codes "not described within 512 rules\n"
 
--- the line of what a search for relations tells; want of memory has none here
-abbrev pub fault_line : Undescribed → List ℕ
-fault_line (Met met) = bound_line (bound_of met)
-fault_line NoMemory = codes ""
+-- When a search for relations of a quotient in a form met a bound.
+abbrev pub Meets : Type 1
+Meets = Certificate → Form → Bound → Type 0
 
--- the line of a bound that a search for relations met
-abbrev pub IsBoundLine : List ℕ → Type 0
-IsBoundLine text = (met : MetBound) × (text ≡ bound_line (bound_of met))
+-- The search over the calls of `relations`: one of its values says so, which no other code makes.
+abbrev pub HasMet : Certificate → Form → Bound → Type 0
+HasMet c form b = (met : MetBound) × (bound_of met ≡ b)
 
 -- the line that names the bound of `present` that relations are above
 abbrev pub note_line : PresentBound → List ℕ
@@ -55,39 +54,55 @@ abbrev pub IsRelationsText : Form → Certificate → List ℕ → Option (List 
 IsRelationsText form c text note = (word : List ℕ) × (above : Option PresentBound)
     × IsRelationsWord form c word above × (text ≡ word ++ codes "\n") × (note ≡ option_map note_line above)
 
--- the text describes the quotient, plain, for LaTeX or in JSON, or says that it isn't described
-abbrev pub DescribesIn : Notation → Form → Certificate → List ℕ → Bool → Type 0
-DescribesIn notation form c text succeeds =
-    (IsDescription notation form c text × (succeeds ≡ true)) ⊎ (IsBoundLine text × (succeeds ≡ false))
+-- What is said by a search of which only this is known, when it met a bound.
+module _ (Met : Meets) where
+  -- what is said in place of a quotient is true of it: the bound was met, and of want of memory nothing is
+  abbrev pub IsToldOf : Certificate → Form → Undescribed → Type 0
+  IsToldOf c form (Told met) = Met c form (bound_of met)
+  IsToldOf c form NoMemory = Unit {0}
 
--- the text is the ideal of the quotient's relations, for a system, or says that it isn't described
-abbrev pub DescribesFor : System → Form → Certificate → List ℕ → Bool → Type 0
-DescribesFor for form c text succeeds =
-    (IsIdealText for form c text × (succeeds ≡ true)) ⊎ (IsBoundLine text × (succeeds ≡ false))
+  -- the line of a bound that was met
+  abbrev pub IsBoundLineBy : Certificate → Form → List ℕ → Type 0
+  IsBoundLineBy c form text = (b : Bound) × Met c form b × (text ≡ bound_line b)
 
--- The text describes the quotient, or is its relations as one word or as an ideal, or says that it
--- isn't described. Beside relations that `present` refuses there is a note, and else none.
+  -- the text describes the quotient, plain, for LaTeX or in JSON, or says that it isn't described
+  abbrev pub DescribesInBy : Notation → Form → Certificate → List ℕ → Bool → Type 0
+  DescribesInBy notation form c text succeeds =
+      (IsDescription notation form c text × (succeeds ≡ true)) ⊎ (IsBoundLineBy c form text × (succeeds ≡ false))
+
+  -- the text is the ideal of the quotient's relations, for a system, or says that it isn't described
+  abbrev pub DescribesForBy : System → Form → Certificate → List ℕ → Bool → Type 0
+  DescribesForBy for form c text succeeds =
+      (IsIdealText for form c text × (succeeds ≡ true)) ⊎ (IsBoundLineBy c form text × (succeeds ≡ false))
+
+  -- The text describes the quotient, or is its relations as one word or as an ideal, or says that it
+  -- isn't described. Beside relations that `present` refuses there is a note, and else none.
+  abbrev pub DescribesQuotientBy : Certificate → Form → Output → List ℕ → Bool → Option (List ℕ) → Type 0
+  DescribesQuotientBy c form Description text succeeds note =
+      DescribesInBy written.Plain form c text succeeds × (note ≡ None)
+  DescribesQuotientBy c form Latex text succeeds note =
+      DescribesInBy written.Latex form c text succeeds × (note ≡ None)
+  DescribesQuotientBy c form Json text succeeds note =
+      DescribesInBy written.Json form c text succeeds × (note ≡ None)
+  DescribesQuotientBy c form Singular text succeeds note =
+      DescribesForBy system.Singular form c text succeeds × (note ≡ None)
+  DescribesQuotientBy c form Gap text succeeds note =
+      DescribesForBy system.Gap form c text succeeds × (note ≡ None)
+  DescribesQuotientBy c form Relations text succeeds note =
+      (IsRelationsText form c text note × (succeeds ≡ true))
+      ⊎ (IsBoundLineBy c form text × (succeeds ≡ false) × (note ≡ None))
+
+  -- the same of the quotient that was found, and the text of a no where none was
+  abbrev pub DescribesFoundBy : {A : Type 0} → Result Certificate (Vec ℕ A) → Form → Output → List ℕ
+      → Bool → Option (List ℕ) → Type 0
+  DescribesFoundBy (Ok c) form output text succeeds note = DescribesQuotientBy c form output text succeeds note
+  DescribesFoundBy (Err said) form output text succeeds note =
+      (text ≡ said.items) × (succeeds ≡ false) × (note ≡ None)
+
+-- The same by the calls of `relations`.
 abbrev pub DescribesQuotient : Certificate → Form → Output → List ℕ → Bool → Option (List ℕ) → Type 0
-DescribesQuotient c form Description text succeeds note =
-    DescribesIn written.Plain form c text succeeds × (note ≡ None)
-DescribesQuotient c form Latex text succeeds note =
-    DescribesIn written.Latex form c text succeeds × (note ≡ None)
-DescribesQuotient c form Json text succeeds note =
-    DescribesIn written.Json form c text succeeds × (note ≡ None)
-DescribesQuotient c form Singular text succeeds note =
-    DescribesFor system.Singular form c text succeeds × (note ≡ None)
-DescribesQuotient c form Gap text succeeds note =
-    DescribesFor system.Gap form c text succeeds × (note ≡ None)
-DescribesQuotient c form Relations text succeeds note =
-    (IsRelationsText form c text note × (succeeds ≡ true))
-    ⊎ (IsBoundLine text × (succeeds ≡ false) × (note ≡ None))
-
--- the same of the quotient that was found, and the text of a no where none was
-abbrev pub DescribesFound : {A : Type 0} → Result Certificate (Vec ℕ A) → Form → Output → List ℕ
-    → Bool → Option (List ℕ) → Type 0
-DescribesFound (Ok c) form output text succeeds note = DescribesQuotient c form output text succeeds note
-DescribesFound (Err said) form output text succeeds note =
-    (text ≡ said.items) × (succeeds ≡ false) × (note ≡ None)
+DescribesQuotient c form output text succeeds note =
+    DescribesQuotientBy HasMet c form output text succeeds note
 
 -- The text describes the quotient that such bytes certify under the limit, or says that it isn't
 -- described; or it is that of a true no. Beside relations that `present` refuses there is a note.

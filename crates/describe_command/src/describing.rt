@@ -2,17 +2,15 @@
 ghost use Rattle.std.specs.Prelude.{◌≡◌, ◌++◌, IfOk, IfErr, None, true, false, codes, is_none, is_some, option_map};
 ghost use Rattle.std.specs.String.{string_bytes};
 ghost use Rattle.check_command.specs.Checks.{AreGiven, IsGivenCause, failed};
-ghost use Rattle.describe_command.specs.Described.{Describes, DescribesFound, DescribesIn, DescribesFor, DescribesQuotient, IsBoundLine, bound_line, fault_line, note_line};
+ghost use Rattle.describe_command.specs.Described.{Describes, DescribesFoundBy, DescribesInBy, DescribesForBy, DescribesQuotientBy, bound_line, note_line};
 ghost use Rattle.requests.specs.declared.plans.Output.TheVariants.{Relations};
 
+use crate::searches::{Relating, Texts};
 use allocation::Memory;
 use answers::Certified;
 use check_command::certified;
 use command_results::{Noted, Said, Stop};
-use descriptions::{
-    Bound, Form, Notation, PresentBound, RelationsWord, System, Undescribed, description_text,
-    ideal_text, relations_word,
-};
+use descriptions::{Bound, Form, Notation, PresentBound, RelationsWord, System, Undescribed};
 use folders::Folder;
 use requests::Output;
 use std::alloc::Global;
@@ -46,49 +44,41 @@ fn bound_line(bound: Bound) -> &'static str
     }
 }
 
-/// The line of the bound that the search for relations met.
-fn undescribed(alloc: Global, fault: Undescribed) -> Result<Noted, Memory>
-    ensures bound { IfOk result (λ n. IsBoundLine n.said.text.items × (n.said.succeeds ≡ false)
-        × (option_map (λ t. t.now) n.note ≡ None)) }
-    ensures line { IfOk result (λ n. n.said.text.items ≡ fault_line fault) }
-{
-    match fault {
-        Undescribed::Bound(met) => refuse(alloc, bound_line(met.bound())),
-        Undescribed::Memory => Err(Memory),
-    }
-}
-
 /// The description of the quotient, plain, for LaTeX or in JSON.
-fn described(
+fn described<T: Texts>(
+    by: &T,
     alloc: Global,
     certified: &Certified,
     form: Form,
     notation: Notation,
 ) -> Result<Noted, Memory>
     ensures { IfOk result
-        (λ n. DescribesIn notation form certified.now n.said.text.items n.said.succeeds
+        (λ n. DescribesInBy T.has_met notation form certified.now n.said.text.items n.said.succeeds
         × (option_map (λ t. t.now) n.note ≡ None)) }
 {
-    match description_text(alloc, notation, certified, form) {
+    match by.description(alloc, notation, certified, form) {
         Ok(text) => Ok(alone(Said::done(text))),
-        Err(fault) => undescribed(alloc, fault),
+        Err(Undescribed::Bound(met)) => refuse(alloc, bound_line(met.bound())),
+        Err(Undescribed::Memory) => Err(Memory),
     }
 }
 
 /// The ideal of the quotient's relations, for a system.
-fn computed(
+fn computed<T: Texts>(
+    by: &T,
     alloc: Global,
     certified: &Certified,
     form: Form,
     system: System,
 ) -> Result<Noted, Memory>
     ensures { IfOk result
-        (λ n. DescribesFor system form certified.now n.said.text.items n.said.succeeds
+        (λ n. DescribesForBy T.has_met system form certified.now n.said.text.items n.said.succeeds
         × (option_map (λ t. t.now) n.note ≡ None)) }
 {
-    match ideal_text(alloc, system, certified, form) {
+    match by.ideal(alloc, system, certified, form) {
         Ok(text) => Ok(alone(Said::done(text))),
-        Err(fault) => undescribed(alloc, fault),
+        Err(Undescribed::Bound(met)) => refuse(alloc, bound_line(met.bound())),
+        Err(Undescribed::Memory) => Err(Memory),
     }
 }
 
@@ -128,34 +118,41 @@ fn line_of(alloc: Global, found: RelationsWord) -> Result<Noted, Memory>
 }
 
 /// The relations of the quotient as one word for `present`, and the note where it refuses them.
-fn presented(alloc: Global, certified: &Certified, form: Form) -> Result<Noted, Memory>
-    ensures { IfOk result (λ n. DescribesQuotient certified.now form Relations n.said.text.items
+fn presented<T: Texts>(
+    by: &T,
+    alloc: Global,
+    certified: &Certified,
+    form: Form,
+) -> Result<Noted, Memory>
+    ensures { IfOk result (λ n. DescribesQuotientBy T.has_met certified.now form Relations n.said.text.items
         n.said.succeeds (option_map (λ t. t.now) n.note)) }
 {
-    match relations_word(alloc, certified, form) {
+    match by.word(alloc, certified, form) {
         Ok(found) => line_of(alloc, found),
-        Err(fault) => undescribed(alloc, fault),
+        Err(Undescribed::Bound(met)) => refuse(alloc, bound_line(met.bound())),
+        Err(Undescribed::Memory) => Err(Memory),
     }
 }
 
 /// What is said of what was found, and told beside it.
-fn noted(
+fn noted<T: Texts>(
+    by: &T,
     alloc: Global,
     quotient: Result<Certified, Vec<u8>>,
     form: Form,
     output: Output,
 ) -> Result<Noted, Memory>
-    ensures { IfOk result (λ n. DescribesFound quotient form output n.said.text.items n.said.succeeds
+    ensures { IfOk result (λ n. DescribesFoundBy T.has_met quotient form output n.said.text.items n.said.succeeds
         (option_map (λ t. t.now) n.note)) }
 {
     match quotient {
         Ok(certified) => match output {
-            Output::Description => described(alloc, &certified, form, Notation::Plain),
-            Output::Latex => described(alloc, &certified, form, Notation::Latex),
-            Output::Json => described(alloc, &certified, form, Notation::Json),
-            Output::Relations => presented(alloc, &certified, form),
-            Output::Singular => computed(alloc, &certified, form, System::Singular),
-            Output::Gap => computed(alloc, &certified, form, System::Gap),
+            Output::Description => described(by, alloc, &certified, form, Notation::Plain),
+            Output::Latex => described(by, alloc, &certified, form, Notation::Latex),
+            Output::Json => described(by, alloc, &certified, form, Notation::Json),
+            Output::Relations => presented(by, alloc, &certified, form),
+            Output::Singular => computed(by, alloc, &certified, form, System::Singular),
+            Output::Gap => computed(by, alloc, &certified, form, System::Gap),
         },
         Err(no) => Ok(alone(Said::no(no))),
     }
@@ -188,7 +185,7 @@ pub fn describe<'a, F: Folder, S: Source>(
         → folder.new ≡ folder.old }
 {
     let quotient = certified(alloc, file, limit, folder, input)?;
-    match noted(alloc, quotient, form, output) {
+    match noted(&Relating, alloc, quotient, form, output) {
         Ok(noted) => Ok(noted),
         Err(Memory) => Err(Stop::Memory),
     }

@@ -2,6 +2,7 @@
 #![tactic(auto)]
 
 mod describing;
+mod searches;
 
 pub use describing::describe;
 pub use descriptions::Form;
