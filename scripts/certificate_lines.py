@@ -53,8 +53,18 @@ def is_infinite(certificate: str) -> bool:
     return certificate.startswith("mqi ")
 
 
+def is_whole(certificate: str) -> bool:
+    """Whether a text says that it is one of a whole game with an infinite quotient."""
+    return certificate.startswith("mqw ")
+
+
+def shows_infinite(certificate: str) -> bool:
+    """Whether a text says that it shows an infinite quotient, of a part or of the whole game."""
+    return is_infinite(certificate) or is_whole(certificate)
+
+
 def heaps_of(certificate: str) -> int:
-    """The last heap of which a certificate speaks, or 0 where it is a full one."""
+    """The last heap of which a certificate speaks, or 0 where it speaks of the whole game."""
     words = words_of(certificate)
     if is_infinite(certificate):
         return int(words["heaps"])
