@@ -22,6 +22,8 @@ CERTIFICATES = root / "certificates"
 LARGEST_INPUT = 4 << 20
 # The files that a refusal names a position of
 REFUTED = sorted((CERTIFICATES / "refused").glob("outcome_*.mqc"))
+# What another program, in Python, found in the tables of parts of these games
+TAILS = {"0.be": "above heap 2 outside 2", "0.79": "above heap 14 outside 10", "c.7": "above heap 1 outside 2"}
 
 
 @dataclass
@@ -75,6 +77,13 @@ def many_codes(program: str, _: pathlib.Path, runs: Runs) -> Iterator[str]:
     text = 400 * sample("0.3.mqc")
     yield from differs(runs.run([program, "solve", *400 * ["0.3"], "--heaps", "12"]), 0, text)
     yield from differs(runs.run([program, "solve", "-", "--heaps", "12"], 400 * b"0.3\n"), 0, text)
+
+
+def tails_of_codes(program: str, _: pathlib.Path, runs: Runs) -> Iterator[str]:
+    """The parts that are found of codes alone show beyond which heap their games are normal play."""
+    for code, said in TAILS.items():
+        found = runs.run([program, "solve", code, "--furthest", "64"])
+        yield from differs(runs.run([program, "tail", "-"], found.printed), 0, f"normal {code} {said}\n".encode())
 
 
 def refuting_positions(program: str, _: pathlib.Path, runs: Runs) -> Iterator[str]:
@@ -434,6 +443,7 @@ def made_rows() -> Iterator[Made]:
     yield Made("many codes", 2, many_codes)
     yield Made("catalogues of many entries", 15, catalogues_of_many)
     yield Made("a catalogue that grows", 65, catalogue_that_grows)
+    yield Made("tails of codes", len(TAILS), tails_of_codes)
     yield Made("beginnings", len(sample("0.3.mqc")), beginnings)
     yield Made("refuting positions", len(REFUTED), refuting_positions)
     yield Made("the third format", len(THIRD_FORMAT), third_format)
