@@ -5,6 +5,7 @@ pub mod Apart
 pub mod Leaders
 pub mod States
 pub mod Tested
+mod Wins
 pub mod Telling
 pub mod Quotient
 pub mod Options

@@ -4,9 +4,11 @@ use Rattle.std.proofs.Common.{◌≡◌, ℕ, ◌+◌, ◌≤◌, ◌⊎◌, Boo
 use Rattle.std.specs.List.{AllByRecursion}
 use Rattle.std.proofs.lemmas.Bool.{true≢false}
 use Rattle.std.proofs.lemmas.Bool.Decides.{nat_tests}
-use Rattle.misere_theory.specs.Games.{Move, IsPosition, IsHeap}
+use Rattle.misere_theory.specs.Games.{HeapOption, Move, IsPosition, IsHeap}
 use Rattle.misere_theory.specs.Games.Move.{Here, There}
 use Rattle.misere_theory.proofs.Sums.{first_or_rest, no_move_of_none}
+use Rattle.misere_theory.proofs.Shuffles.{Shuffled, back, to_front, move_shuffled}
+use Rattle.misere_theory.proofs.Shuffles.Shuffled.{Same, Under, Flip, Then}
 use Rattle.dominance.specs.Triples.{Triple, xor, IsElement, triple_of}
 use Rattle.dominance.specs.Tested.{Change, State, size_of, empty_state, together, IsWithin, IsHeapChange, IsStateOf, AreClosed}
 use Rattle.dominance.proofs.Triples.{xor_comm, xor_assoc}
@@ -29,10 +31,24 @@ swapped a b = omega arith
 
 module _ (code : List ℕ) (listed : List ℕ → Bool) (label : ℕ → Triple)
     (elements : (n : ℕ) → IsHeap n → IsElement (label n)) where
-  -- A move makes this change, and the lead that it leaves is at most the weight of the heaviest heap.
+  -- Of some heap of X a listed option is left, which makes Y, the heaps of both in any order.
+  abbrev pub IsListedMove : List ℕ → List ℕ → Type 0
+  IsListedMove X Y =
+      (n : ℕ) × (R : List ℕ) × (H : List ℕ) × Shuffled X (n ∷ R) × HeapOption code n H × (listed H ≡ true)
+      × Shuffled Y (H ++ R)
+
+  pub listed_beside : (a : ℕ) (X Y : List ℕ) → IsListedMove X Y → IsListedMove (a ∷ X) (a ∷ Y)
+  listed_beside a X Y (n, R, H, s, o, l, t) =
+      (n, a ∷ R, H, Then (Under s) Flip, o, l, Then (Under t) (back (to_front H a R)))
+
+  pub move_of : (X Y : List ℕ) → IsListedMove X Y → (Z : List ℕ) × Move code X Z × Shuffled Y Z
+  move_of X Y (n, R, H, s, o, l, t) =
+      let (Z, m, u) = move_shuffled (back s) (Here o refl) in (Z, m, Then t u)
+
+  -- Such a move makes this change, and the lead that it leaves is at most the weight of the heaviest heap.
   abbrev pub IsChange : List ℕ → Change → Type 0
   IsChange X x =
-      (Y : List ℕ) × Move code X Y
+      (Y : List ℕ) × IsListedMove X Y
       × ((triple_of label Y).odd ≡ xor x.0 (triple_of label X).odd)
       × ((triple_of label Y).weight + x.1 ≡ (triple_of label X).weight)
       × ((b : ℕ) → AllByRecursion (λ m. (label m).weight ≤ b) X → (triple_of label Y).lead ≤ b)
@@ -56,7 +72,7 @@ module _ (code : List ℕ) (listed : List ℕ → Bool) (label : ℕ → Triple)
   change_beside : (n : ℕ) (X : List ℕ) (x : Change) → IsHeap n → IsChange X x → IsChange (n ∷ X) x
   change_beside n X x is_heap (Y, m, odd, weight, lead) = (
     n ∷ Y,
-    There m refl,
+    listed_beside n X Y m,
     ap (xor (label n).odd) odd
         ∙ sym (xor_assoc (label n).odd x.0 (triple_of label X).odd)
         ∙ ap (λ b. xor b (triple_of label X).odd) (xor_comm (label n).odd x.0)
@@ -68,10 +84,10 @@ module _ (code : List ℕ) (listed : List ℕ → Bool) (label : ℕ → Triple)
 
   change_of_heap : (n : ℕ) (X : List ℕ) (x : Change) → IsHeap n → IsPosition IsHeap X
       → IsHeapChange code listed label n x → IsChange (n ∷ X) x
-  change_of_heap n X x h p (H, o, _, odd, weight, lead) =
+  change_of_heap n X x h p (H, o, l, odd, weight, lead) =
       let e = triple-append label H X in (
         H ++ X,
-        Here o refl,
+        (n, X, H, Same, o, l, Same),
         ap (λ u. u.odd) e ∙ ap (λ b. xor b (triple_of label X).odd) odd
             ∙ xor_assoc x.0 (label n).odd (triple_of label X).odd,
         let f = ap (λ u. u.weight) e in omega arith,

@@ -7,6 +7,7 @@ use Rattle.misere_theory.specs.Games.{Move, IsP, IsPosition, IsHeap}
 use Rattle.misere_theory.specs.Games.Move.{Here, There}
 use Rattle.misere_theory.proofs.Sums.{first_or_rest, heaps_kept, no_move_of_none}
 use Rattle.misere_theory.proofs.Shuffles.{Shuffled, back, move_shuffled, position_shuffled, one_heap_moves}
+use Rattle.misere_theory.proofs.Shuffles.Shuffled.{Same, Then}
 use Rattle.misere_theory.specs.Labels.{ObeysRule}
 use Rattle.misere_theory.proofs.LocalRule.{right_by_rule, true_or_false}
 use Rattle.dominance.specs.Triples.{Triple, xor, times, is_p, triple_of}
@@ -15,12 +16,15 @@ use Rattle.dominance.proofs.Triples.{said, same_triple}
 use Rattle.dominance.proofs.Positions.{triple-append, triple_shuffled, element_of}
 use Rattle.dominance.proofs.Apart.{never_both_said}
 use Rattle.dominance.proofs.Leaders.{Leads, some_leads, no_heavier, led_at_most, led_light}
-use Rattle.dominance.proofs.States.{HasState, kept_state}
+use Rattle.dominance.proofs.States.{HasState, IsListedMove, listed_beside, move_of, kept_state}
 
 module _ (code : List ℕ) (listed : List ℕ → Bool) (label : ℕ → Triple) (kinds kept : List State)
     (tested : AreTested code listed label kinds kept) where
   abbrev pub says : List ℕ → Bool
   says X = is_p (triple_of label X)
+
+  abbrev pub Listed : List ℕ → List ℕ → Type 0
+  Listed = IsListedMove code listed label tested.elements
 
   said_of_others : (X Z : List ℕ) → Shuffled X Z → says X ≡ says Z
   said_of_others X Z s = ap is_p (triple_shuffled label s)
@@ -88,18 +92,18 @@ module _ (code : List ℕ) (listed : List ℕ → Bool) (label : ℕ → Triple)
     changed x Z odd weight lead =
         same_triple _ _ (ap (xor (label n).odd) odd) (omega arith) (omega arith)
 
-    leader_leads : says (n ∷ Y) ≡ false → (Z : List ℕ) → Move code (n ∷ Y) Z
-        → (W : List ℕ) × Move code (n ∷ Y) W × (says W ≡ true)
+    pub leader_leads : says (n ∷ Y) ≡ false → (Z : List ℕ) → Move code (n ∷ Y) Z
+        → (W : List ℕ) × Listed (n ∷ Y) W × (says W ≡ true)
     leader_leads e Z m = elim (settled.outside e) [
       | inl (dead, none) ↦ elim (first_or_rest m) [
         | inl (H, o, _) ↦ absurd (none H o)
         | inr (V, i, _) ↦ absurd (s.ended dead V i)
       ]
-      | inr (inl (H, o, _, f)) ↦ (H ++ Y, Here o refl, ap is_p (triple-append label H Y) ∙ f)
+      | inr (inl (H, o, l, f)) ↦ (H ++ Y, (n, Y, H, Same, o, l, Same), ap is_p (triple-append label H Y) ∙ f)
       | inr (inr (x, i, f)) ↦
           let (V, j, odd, weight, lead) = s.changes x i in (
             n ∷ V,
-            There j refl,
+            listed_beside code listed label tested.elements n Y V j,
             ap is_p (changed x V odd weight
                 (lead (label n).weight (no_heavier label tested.elements n Y all)))
                 ∙ f,
@@ -111,7 +115,10 @@ module _ (code : List ℕ) (listed : List ℕ → Bool) (label : ℕ → Triple)
       λ e. (leader_moves e, λ Z m. never_into (n ∷ Y) Z p m e),
       λ r. let ((Z, m), none) = r in elim (true_or_false (says (n ∷ Y))) [
         | inl t ↦ t
-        | inr f ↦ let (W, i, t) = leader_leads f Z m in absurd (true≢false (sym t ∙ none W i))
+        | inr f ↦
+            let (W, i, t) = leader_leads f Z m in
+            let (V, j, u) = move_of code listed label tested.elements (n ∷ Y) W i in
+            absurd (true≢false (sym t ∙ said_of_others W V u ∙ none V j))
       ],
     )
 
@@ -126,3 +133,17 @@ module _ (code : List ℕ) (listed : List ℕ → Bool) (label : ℕ → Triple)
 
   pub predicts : (X : List ℕ) → IsPosition IsHeap X → IsP code X ↔ (says X ≡ true)
   predicts = right_by_rule IsHeap code (heaps_kept code) says obeys
+
+  -- where N is said and there is a move, a listed option leads to a position of which P is said
+  pub leads : (X : List ℕ) → IsPosition IsHeap X → says X ≡ false → (Z : List ℕ) → Move code X Z
+      → (W : List ℕ) × Listed X W × (says W ≡ true)
+  leads [] p f Z m = absurd (no_move_of_none m)
+  leads (a ∷ X) p f Z m =
+      let (n, Y, s, all) = some_leads label a X in
+      let q = position_shuffled IsHeap s p in
+      let (k, i, h) =
+      kept_state code listed label tested.elements kinds kept tested.closed tested.kinds_of Y q.1 in
+      let (V, j, _) = move_shuffled s m in
+      let (W, (b, R, H, t, o, l, u), e) =
+      leader_leads n Y q all k i h (sym (said_of_others (a ∷ X) (n ∷ Y) s) ∙ f) V j in
+      (W, (b, R, H, Then s t, o, l, u), e)

@@ -1,7 +1,9 @@
 -- Claims whose triples repeat with a period, up to a rise; and which heaps are tested, so that what is tested
 -- of them holds of all. This project's own.
 use Rattle.std.specs.Prelude.{true, ◌≡◌, ◌≢◌, ℕ, ◌+◌, ◌*◌, ◌%◌, ◌<◌, ◌≤◌, nat_lt, nat_le, ◌⊎◌, Bool, if◌then◌else◌, List, [], ◌∷◌, Contains}
-use Rattle.misere_theory.specs.Games.{digit, HeapOption, IsHeap}
+use Rattle.misere_theory.specs.Games.{digit, HeapOption, IsHeap, IsPosition}
+use Rattle.misere_theory.specs.Pairs.{IsSmallSplit}
+use Rattle.misere_theory.specs.Plays.{IsWinningMove}
 use Rattle.dominance.specs.Triples.{Triple, IsElement, triple_of}
 use Rattle.dominance.specs.Tested.{Change, State, AreApart, IsStateOf, AreClosed, MayStandBeside, IsSettled}
 
@@ -72,3 +74,9 @@ pub record AreTestedBelow (code : List ℕ) (label : ℕ → Triple) (kinds kept
   pub settled : (n : ℕ) (k : State) (y : Triple) → IsHeap n → n < e.last + e.period
       → Contains kept k → y.weight ≤ e.tried n + 2 → MayStandBeside (label n) k y
       → IsSettled code (is_listed e.start) label n k y
+
+-- If a move wins in a position, one wins that leaves a heap no two of whose parts are from start on.
+abbrev pub HasSmallWins : List ℕ → ℕ → Type 0
+HasSmallWins code start =
+    (X : List ℕ) → IsPosition IsHeap X → (n : ℕ) (H : List ℕ) → IsWinningMove code X n H
+    → (m : ℕ) × (L : List ℕ) × IsWinningMove code X m L × IsSmallSplit start L

@@ -20,7 +20,7 @@ ghost use Rattle.misere_theory.specs.Parts.{IsInfinite};
 ghost use Rattle.dominance.specs.Triples.{Triple, nothing, times, is_p, IsElement, claim_by, triple_of, IsRuled};
 ghost use Rattle.dominance.specs.Tested.{State, AreTested};
 ghost use Rattle.dominance.specs.Quotient.{ArePredicting, HasRulers, HasAllRulers};
-ghost use Rattle.dominance.specs.Finite.{Extent, is_listed, AreTestedBelow};
+ghost use Rattle.dominance.specs.Finite.{Extent, is_listed, AreTestedBelow, HasSmallWins};
 
 /// The elements of U are a commutative monoid; the triple of a sum of positions is the product of theirs, and
 /// its lead isn't 0 exactly where one heap rules the others.
@@ -46,8 +46,8 @@ pub fn tested_triples_predict()
 {}
 
 /// What is tested of finitely many heaps, beside finitely many triples each, is enough, if the triples repeat
-/// with a period up to an even rise: so they predict the outcome of each position of the whole game. Of octal
-/// and hexadecimal codes.
+/// with a period up to an even rise: so they predict the outcome of each position of the whole game. If a move
+/// wins, one wins that leaves at most one heap from start on. Of octal and hexadecimal codes.
 pub fn finitely_many_tests_are_enough()
     ensures tests { (code : List ℕ) (label : ℕ → Triple) (kinds kept : List State) (e : Extent)
         → AreTestedBelow code label kinds kept e
@@ -55,6 +55,9 @@ pub fn finitely_many_tests_are_enough()
     ensures predict { (code : List ℕ) (label : ℕ → Triple) (kinds kept : List State) (e : Extent)
         → AreTestedBelow code label kinds kept e
         → ArePredicting code label }
+    ensures wins { (code : List ℕ) (label : ℕ → Triple) (kinds kept : List State) (e : Extent)
+        → AreTestedBelow code label kinds kept e
+        → HasSmallWins code e.start }
 {}
 
 /// Where the triples are right of each position, and heaps tell all triples apart, the triples are the misère

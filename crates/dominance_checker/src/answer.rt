@@ -5,6 +5,7 @@ ghost use Rattle.misere_theory.specs.Labels.{PredictsOutcomes, RepresentsBy, say
 ghost use Rattle.misere_theory.specs.Parts.{IsInfinite};
 ghost use Rattle.misere_theory.specs.Quotients.{Claim, Represents};
 ghost use Rattle.dominance.specs.Triples.{IsElement, claim_by, triple_of};
+ghost use Rattle.dominance.specs.Finite.{HasSmallWins};
 ghost use Rattle.dominance.specs.Quotient.{ArePredicting, HasRulers};
 ghost use Rattle.dominance_checker.specs.Ranks.{label_by};
 
@@ -28,6 +29,7 @@ fn is_tested_claim<A: Allocator + Copy>(
 ) -> Result<bool, AllocError>
     ensures right { IfOk result (λ b. IsTrue b → ArePredicting code.now (label_by s ranks.now)) }
     ensures rulers { IfOk result (λ b. IsTrue b → HasRulers (label_by s ranks.now)) }
+    ensures wins { IfOk result (λ b. IsTrue b → HasSmallWins code.now s.start) }
 {
     let Some(e) = numbers_of(code, s, ranks) else {
         return Ok(false);
@@ -44,7 +46,8 @@ fn is_tested_claim<A: Allocator + Copy>(
 /// Whether a claim passes the test: `ranks` are those of the heaps 0, 1, .., start + period - 1, of which that
 /// of 0 isn't read, and from start on they repeat with the period, up to the rise. A yes means that the claim
 /// is right of each position of the whole game, of any number of heaps of any size; that positions are
-/// indistinguishable exactly where their triples are equal; and that no finite claim represents the game.
+/// indistinguishable exactly where their triples are equal; that no finite claim represents the game; and that
+/// if a move wins, one wins that leaves at most one heap from start on.
 /// `Err` if memory is lacking. The test, and the monoid of triples, are this project's own.
 pub fn is_accepted<A: Allocator + Copy>(
     alloc: A,
@@ -61,6 +64,7 @@ pub fn is_accepted<A: Allocator + Copy>(
     ensures infinite { IfOk result (λ b. IsTrue b → IsInfinite IsHeap code.now) }
     ensures no_claim { IfOk result (λ b. IsTrue b
         → (d : Claim) → Represents IsHeap code.now d → ⊥) }
+    ensures wins { IfOk result (λ b. IsTrue b → HasSmallWins code.now s.start) }
 {
     triples_are_the_quotient();
     Ok(is_tested_claim(alloc, code, s, ranks)?)

@@ -1,5 +1,6 @@
 //! The test of a claim, with lists that a search made.
 ghost use Rattle.std.specs.Prelude.{◌≡◌, ◌+◌, ◌*◌, ◌<◌, ◌≤◌, ◌^◌, ℕ, IsTrue, IfSome, IfOk};
+ghost use Rattle.dominance.specs.Finite.{HasSmallWins};
 ghost use Rattle.dominance.specs.Quotient.{ArePredicting};
 ghost use Rattle.dominance_checker.specs.Ranks.{label_by};
 ghost use Rattle.dominance_checker.specs.Passed.{HasElement, HasFew, HasFar, IsClaimTested};
@@ -84,7 +85,8 @@ pub(crate) fn is_right<A: Allocator + Copy>(
     kept: &[State],
     e: Numbers,
 ) -> Result<bool, AllocError>
-    ensures { IfOk result (λ b. IsTrue b → ArePredicting code.now (label_by s ranks.now)) }
+    ensures right { IfOk result (λ b. IsTrue b → ArePredicting code.now (label_by s ranks.now)) }
+    ensures wins { IfOk result (λ b. IsTrue b → HasSmallWins code.now s.start) }
 {
     options_are_exact();
     finitely_many_tests_are_enough();

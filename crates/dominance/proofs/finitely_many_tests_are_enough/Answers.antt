@@ -1,6 +1,7 @@
 use Rattle.dominance.specs.Finite.{is_listed}
 use Rattle.dominance.proofs.Finite.{elements, tested_all}
 use Rattle.dominance.proofs.Tested.{predicts as predicts_outcomes}
+use Rattle.dominance.proofs.Wins.{small_wins}
 use Rattle.dominance.proofs.finitely_many_tests_are_enough.Goals as goal
 
 pub returns : goal.returns
@@ -11,4 +12,6 @@ returns g = record {
     predicts = predicts_outcomes code (is_listed e.start) label kinds kept
         (tested_all code label kinds kept e tested);
   };
+  wins = λ code label kinds kept e tested.
+      small_wins code e.start label kinds kept (tested_all code label kinds kept e tested);
 }
