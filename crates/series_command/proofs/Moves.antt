@@ -1,5 +1,5 @@
 -- Positions of heaps in which no move is possible.
-use Rattle.std.proofs.Common.{ℕ, List, [], ◌∷◌, ◌++◌, ◌↔◌}
+use Rattle.std.proofs.Common.{ℕ, List, [], ◌∷◌, ◌++◌}
 use Rattle.misere_theory.specs.Games.{IsHeapUpTo, Indistinguishable, IsP, IsPosition, Move}
 use Rattle.misere_theory.specs.Games.IsP.{AllLose}
 use Rattle.misere_theory.specs.Games.Move.{Here, There}

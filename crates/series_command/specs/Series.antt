@@ -1,6 +1,6 @@
 -- How many elements the quotients of the first heaps of a game have. The sequence of these orders is
 -- that of the tables of Plambeck and Siegel; how it is printed is this project's own.
-use Rattle.std.specs.Prelude.{◌≡◌, ◌≤◌, ◌+◌, ℕ, zero, suc, Bool, false, nat_lt, List, [], ◌++◌, Option, Some, None, codes, decimal}
+use Rattle.std.specs.Prelude.{◌≡◌, ◌≤◌, ◌+◌, ℕ, Bool, false, nat_lt, List, [], ◌++◌, Option, Some, None, codes, decimal}
 use Rattle.misere_theory.specs.Certificates.{Certificate, Accepted, kind_of}
 use Rattle.misere_theory.specs.Games.{HeapOption, Indistinguishable, IsHeapUpTo, IsPosition}
 use Rattle.octal_code.specs.Text.{IsCodeText}
@@ -8,7 +8,8 @@ use Rattle.requests.specs.declared.plans.Aim.TheVariants.{Part}
 use Rattle.requests.specs.declared.plans.PartsBounds.{PartsBounds}
 use Rattle.requests.specs.declared.plans.SolveBounds.{SolveBounds}
 use Rattle.requests.specs.declared.ranges.TheConstants.{DEFAULT_ROUNDS}
-use Rattle.solve_command.specs.Solved.{WasGivenUp}
+use Rattle.solve_command.specs.Searches.{Calls, WasGivenUpBy}
+use Rattle.solve_command.specs.Solved.{HasAsked}
 
 -- a move is possible in the heap
 abbrev pub HasOption : List ℕ → ℕ → Type 0
@@ -37,15 +38,6 @@ part_of bounds n =
       tells_why = false;
     }
 
--- a move is possible in the heaps 1 to n, and the search for their quotient was given up
-abbrev pub IsUnfound : List ℕ → PartsBounds → ℕ → Type 0
-IsUnfound code bounds n = WasGivenUp code (part_of bounds n) × (AreStill code n → ⊥)
-
--- how many elements the quotient of the heaps 1 to n has, or that it isn't found
-abbrev pub IsOrder : List ℕ → PartsBounds → ℕ → Option ℕ → Type 0
-IsOrder code bounds n (Some order) = HasOrder code bounds.order n order
-IsOrder code bounds n None = IsUnfound code bounds n
-
 -- the line of the heaps 1 to n
 abbrev pub order_line : ℕ → ℕ → List ℕ
 order_line n order = decimal n ++ codes " " ++ decimal order ++ codes "\n"
@@ -57,20 +49,35 @@ pub data AreOrders (code : List ℕ) (most : ℕ) : ℕ → List ℕ → Type 0 
       → HasOrder code most (n + 1) order
       → AreOrders code most (n + 1) (text ++ order_line (n + 1) order)
 
--- the series ends with the last heap that is asked, or before the first quotient that isn't found
-pub data EndsWith (code : List ℕ) (bounds : PartsBounds) (n : ℕ) : Type 0 where
-  AtLast : n ≡ bounds.heaps → EndsWith code bounds n
-  Unfound : IsUnfound code bounds (n + 1) → EndsWith code bounds n
+-- What is said of a series by the calls of a search, of which a proof has nothing but what they answered.
+module _ (Asked : Calls) where
+  -- a move is possible in the heaps 1 to n, and the search for their quotient was given up
+  abbrev pub IsUnfound : List ℕ → PartsBounds → ℕ → Type 0
+  IsUnfound code bounds n = WasGivenUpBy Asked code (part_of bounds n) × (AreStill code n → ⊥)
 
--- The series of a code, which ends well if it has a line.
-pub record HasSeries (code : List ℕ) (bounds : PartsBounds) (text : List ℕ) (succeeds : Bool)
-    : Type 0 where
-  pub n : ℕ
-  pub orders : AreOrders code bounds.order n text
-  pub ends : EndsWith code bounds n
-  pub well : succeeds ≡ nat_lt 0 n
+  -- how many elements the quotient of the heaps 1 to n has, or that it isn't found
+  abbrev pub IsOrder : List ℕ → PartsBounds → ℕ → Option ℕ → Type 0
+  IsOrder code bounds n (Some order) = HasOrder code bounds.order n order
+  IsOrder code bounds n None = IsUnfound code bounds n
 
--- the word is a code's, and the text is its series
+  -- the series ends with the last heap that is asked, or before the first quotient that isn't found
+  pub data EndsWith (code : List ℕ) (bounds : PartsBounds) (n : ℕ) : Type 0 where
+    AtLast : n ≡ bounds.heaps → EndsWith code bounds n
+    Unfound : IsUnfound code bounds (n + 1) → EndsWith code bounds n
+
+  -- The series of a code, which ends well if it has a line.
+  pub record HasSeries (code : List ℕ) (bounds : PartsBounds) (text : List ℕ) (succeeds : Bool)
+      : Type 0 where
+    pub n : ℕ
+    pub orders : AreOrders code bounds.order n text
+    pub ends : EndsWith code bounds n
+    pub well : succeeds ≡ nat_lt 0 n
+
+  -- the word is a code's, and the text is its series
+  abbrev pub IsSeriesBy : List ℕ → PartsBounds → List ℕ → Bool → Type 0
+  IsSeriesBy word bounds text succeeds = (code : List ℕ) × IsCodeText word code
+      × HasSeries code bounds text succeeds
+
+-- the same by the search over proposers
 abbrev pub IsSeries : List ℕ → PartsBounds → List ℕ → Bool → Type 0
-IsSeries word bounds text succeeds = (code : List ℕ) × IsCodeText word code
-    × HasSeries code bounds text succeeds
+IsSeries word bounds text succeeds = IsSeriesBy HasAsked word bounds text succeeds

@@ -8,4 +8,4 @@ mod saying;
 mod still;
 
 pub use laws::still_heaps_have_one_class;
-pub use saying::series;
+pub use saying::{series, series_by};

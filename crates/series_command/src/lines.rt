@@ -7,6 +7,7 @@ use allocation::Memory;
 use command_results::Said;
 use octal_code::Code;
 use requests::PartsBounds;
+use solve_command::Searches;
 use std::alloc::Global;
 
 /// The line of the heaps 1 to `last`.
@@ -18,13 +19,18 @@ fn order_line(alloc: Global, last: u32, order: u16) -> Result<String, Memory>
 }
 
 /// The lines from heap 1 on, as far as quotients are found.
-pub(crate) fn order_lines(alloc: Global, code: &Code, bounds: PartsBounds) -> Result<Said, Memory>
-    ensures { IfOk result (λ s. HasSeries code.now bounds s.text.items s.succeeds) }
+pub(crate) fn order_lines<S: Searches>(
+    by: &S,
+    alloc: Global,
+    code: &Code,
+    bounds: PartsBounds,
+) -> Result<Said, Memory>
+    ensures { IfOk result (λ s. HasSeries S.has_asked code.now bounds s.text.items s.succeeds) }
 {
     let mut text = Vec::new(alloc);
     let mut last: u32 = 0;
     'heaps: while last < bounds.heaps {
-        match order_of(alloc, code, last + 1, bounds)? {
+        match order_of(by, alloc, code, last + 1, bounds)? {
             Some(order) => {
                 let line = order_line(alloc, last + 1, order)?;
                 text.extend_from_slice(line.as_bytes())?;

@@ -7,7 +7,7 @@ use crate::still::are_still;
 use allocation::Memory;
 use octal_code::Code;
 use requests::{Aim, DEFAULT_ROUNDS, PartsBounds};
-use solve_command::{SolveBounds, certificate_for};
+use solve_command::{Searches, SolveBounds, certificate_by};
 use std::alloc::Global;
 
 /// How far the search for the quotient of the heaps 1 to `last` goes.
@@ -24,19 +24,20 @@ fn part_of(bounds: PartsBounds, last: u32) -> SolveBounds
 }
 
 /// How many elements the quotient of the heaps 1 to `last` has, if it is found.
-pub(crate) fn order_of(
+pub(crate) fn order_of<S: Searches>(
+    by: &S,
     alloc: Global,
     code: &Code,
     last: u32,
     bounds: PartsBounds,
 ) -> Result<Option<u16>, Memory>
-    ensures { IfOk result (IsOrder code.now bounds last) }
+    ensures { IfOk result (IsOrder S.has_asked code.now bounds last) }
 {
     still_heaps_have_one_class();
     if are_still(code, last) {
         return Ok(Some(1));
     }
-    match certificate_for(alloc, code, part_of(bounds, last))? {
+    match certificate_by(by, alloc, code, part_of(bounds, last))? {
         Some(certified) => Ok(Some(certified.cert().order())),
         None => Ok(None),
     }

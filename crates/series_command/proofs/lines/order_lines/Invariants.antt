@@ -3,8 +3,8 @@ use Rattle.series_command.specs.Series.{AreOrders}
 use Rattle.series_command.proofs.lines.order_lines.Given as goal
 
 abbrev pub invariant-heaps : goal.invariant-heaps
-invariant-heaps l =
+invariant-heaps g l =
     AreOrders l.code l.bounds.order l.last l.text.items × (l.last ≤ l.bounds.heaps)
 
 abbrev pub decreases-heaps : goal.decreases-heaps
-decreases-heaps l = l.bounds.heaps - l.last
+decreases-heaps g l = l.bounds.heaps - l.last

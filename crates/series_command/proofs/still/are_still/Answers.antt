@@ -1,4 +1,4 @@
-use Rattle.std.proofs.Common.{◌≡◌, arith, refl}
+use Rattle.std.proofs.Common.{arith, refl}
 use Rattle.series_command.proofs.First.{one_more}
 use Rattle.series_command.proofs.still.are_still.Goals as goal
 
