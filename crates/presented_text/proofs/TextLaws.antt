@@ -15,7 +15,7 @@ use Rattle.certificate_text.proofs.Fields.{otherwise_some}
 use Rattle.certificate_text.proofs.Lists.{line_text}
 use Rattle.certificate_text.proofs.Grouped.{text_then, text_then_is}
 use Rattle.word_texts.specs.Spelled.{spelled}
-use Rattle.presented_text.specs.declared.TheConstants.{MOST_HEAPS, MOST_WORDS, MOST_GENERATORS}
+use Rattle.presented_text.specs.declared.TheConstants.{MOST_HEAPS, MOST_ITEMS, MOST_GENERATORS}
 use Rattle.presented_text.specs.Said.{PresentedSaid, IsInRanges}
 use Rattle.presented_text.specs.Spelling.{heap_word, heaps_words, relation_line, presented_lines, SpellsPresented}
 use Rattle.presented_text.specs.Reading.{positive_at, front_at, said_at}
@@ -235,9 +235,9 @@ said_takes bytes c rest e =
     let ft = front_takes _ _ _ front.1 in
     let lt = some_takes heaps_reader (codes "letters") MOST_GENERATORS _ _ _ letters.1 in
     let wt = exact_takes heap_word_reader (codes "words") front.0.0.1 _ _ _ words.1 in
-    let rt_ = while_takes relation_reader (codes "relation ") MOST_WORDS _ _ _ relations.1 in
+    let rt_ = while_takes relation_reader (codes "relation ") MOST_ITEMS _ _ _ relations.1 in
     let ct = exact_takes cycle_reader (codes "cycle") (length letters.0.0) _ _ _ cycles.1 in
-    let pt = some_takes word_reader (codes "portion") MOST_WORDS _ _ _ portion.1 in
+    let pt = some_takes word_reader (codes "portion") MOST_ITEMS _ _ _ portion.1 in
     let made : PresentedSaid =
     record {
       code = front.0.0.0;
@@ -296,11 +296,11 @@ said_again c rest h =
       some_again heaps_reader (codes "letters") MOST_GENERATORS c.letters words_ h.letters.0
           (most_positive MOST_HEAPS c.letters h.letters.1),
       exact_again heap_word_reader (codes "words") c.heaps c.words relations_ h.words.0 h.words.1,
-      while_again relation_reader (codes "relation ") (λ ws t next. tt) MOST_WORDS c.relations last_
+      while_again relation_reader (codes "relation ") (λ ws t next. tt) MOST_ITEMS c.relations last_
           h.relations.0 h.relations.1 tt (no_relation c rest),
       exact_again cycle_reader (codes "cycle") (length c.letters) c.cycles portion_ h.cycles.0
           h.cycles.1,
-      some_again word_reader (codes "portion") MOST_WORDS c.portion end_ h.portion.0 h.portion.1,
+      some_again word_reader (codes "portion") MOST_ITEMS c.portion end_ h.portion.0 h.portion.1,
       fixed_again (codes "end\n") rest,
     ) refl
 

@@ -3,7 +3,7 @@
 use Rattle.std.specs.Prelude.{ℕ, zero, suc, ◌+◌, ◌==◌, List, [], ◌∷◌, length, Option, Some, None, nat_lt, if◌then◌else◌, codes}
 use Rattle.certificate_text.specs.Reading.{◌>>=◌, with_front, otherwise, fixed_at, number_at, code_line_at}
 use Rattle.word_texts.specs.Read.{spelled_at}
-use Rattle.presented_text.specs.declared.TheConstants.{MOST_HEAPS, MOST_WORDS, LARGEST_CYCLE, MOST_GENERATORS}
+use Rattle.presented_text.specs.declared.TheConstants.{MOST_HEAPS, MOST_ITEMS, LARGEST_CYCLE, MOST_GENERATORS}
 use Rattle.presented_text.specs.Said.{PresentedSaid}
 
 -- at most room words, for as long as the sign before them stands
@@ -76,9 +76,9 @@ said_at bytes = do
   front ← front_at bytes
   letters ← some_at (codes "letters") (positive_at (MOST_HEAPS + 1)) MOST_GENERATORS front.1
   words ← exact_at (codes "words") heap_word_at front.0.1 letters.1
-  relations ← while_at (codes "relation ") relation_at MOST_WORDS words.1
+  relations ← while_at (codes "relation ") relation_at MOST_ITEMS words.1
   cycles ← exact_at (codes "cycle") cycle_at (length letters.0) relations.1
-  portion ← some_at (codes "portion") spelled_at MOST_WORDS cycles.1
+  portion ← some_at (codes "portion") spelled_at MOST_ITEMS cycles.1
   ended ← fixed_at (codes "end\n") portion.1
   Some (
     record {

@@ -4,7 +4,7 @@ use Rattle.std.specs.Prelude.{◌≡◌, ℕ, ◌≤◌, List, length, Option, S
 use Rattle.std.specs.List.{AllByRecursion}
 use Rattle.misere_theory.specs.Games.{IsCode}
 use Rattle.word_texts.specs.Spelled.{IsSpellable}
-use Rattle.presented_text.specs.declared.TheConstants.{MOST_HEAPS, MOST_WORDS, LARGEST_CYCLE, MOST_GENERATORS}
+use Rattle.presented_text.specs.declared.TheConstants.{MOST_HEAPS, MOST_ITEMS, LARGEST_CYCLE, MOST_GENERATORS}
 
 -- The digits of the code; how many heaps have words of their own, and after how many these repeat, 0 if no
 -- other heap counts; for each letter the heap whose word it is; for each heap its word, or none if it is left
@@ -41,6 +41,6 @@ pub record IsInRanges (c : PresentedSaid) : Type 0 where
   pub letters : (length c.letters ≤ MOST_GENERATORS)
       × AllByRecursion (λ h. (1 ≤ h) × (h ≤ MOST_HEAPS)) c.letters
   pub words : (length c.words ≡ c.heaps) × AllByRecursion IsHeapWord c.words
-  pub relations : (length c.relations ≤ MOST_WORDS) × AllByRecursion IsSpellablePair c.relations
+  pub relations : (length c.relations ≤ MOST_ITEMS) × AllByRecursion IsSpellablePair c.relations
   pub cycles : (length c.cycles ≡ length c.letters) × AllByRecursion IsCycle c.cycles
-  pub portion : (length c.portion ≤ MOST_WORDS) × AllByRecursion IsSpellable c.portion
+  pub portion : (length c.portion ≤ MOST_ITEMS) × AllByRecursion IsSpellable c.portion

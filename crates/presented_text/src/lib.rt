@@ -9,7 +9,7 @@
 pub const MOST_HEAPS: u16 = 4096;
 
 /// The most relations, and the most words of the portion.
-pub const MOST_WORDS: u16 = 60000;
+pub const MOST_ITEMS: u16 = 60000;
 
 /// The largest start and the largest period of a cycle.
 pub const LARGEST_CYCLE: u16 = 1000;
