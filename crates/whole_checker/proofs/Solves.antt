@@ -5,6 +5,7 @@ use Rattle.misere_theory.specs.Games.{IsHeap, IsPosition, Indistinguishable}
 use Rattle.misere_theory.specs.Labels.{PredictsOutcomes, says_by}
 use Rattle.misere_theory.specs.Parts.{IsInfinite}
 use Rattle.misere_theory.specs.Quotients.{Claim, Represents}
+use Rattle.dominance.specs.Finite.{HasSmallWins}
 use Rattle.dominance.specs.Triples.{Triple, claim_by, triple_of}
 use Rattle.dominance_checker.specs.Ranks.{rank_at, triple_in, label_by}
 use Rattle.dominance_checker.specs.declared.rank.Rank.{Rank}
@@ -31,8 +32,9 @@ pub if_solved : {E : Type 0} (c : DominanceSaid) (ranks : List Rank) (r : Result
     → Indistinguishable IsHeap c.code X Y ↔ (triple_of (tested c ranks) X ≡ triple_of (tested c ranks) Y))
     → IfOk r (λ b. IsTrue b → IsInfinite IsHeap c.code)
     → IfOk r (λ b. IsTrue b → (d : Claim) → Represents IsHeap c.code d → ⊥)
+    → IfOk r (λ b. IsTrue b → HasSmallWins c.code c.start)
     → IfOk r (λ b. IsTrue b → IsSolved c)
-if_solved c ranks (Ok b) each predicts classes infinite none = λ t. let same =
+if_solved c ranks (Ok b) each predicts classes infinite none wins = λ t. let same =
     fun_ext (same_label c ranks each) in record {
       predicts = subst (λ f. PredictsOutcomes IsHeap c.code (says_by (claim_by f))) same (predicts t);
       indistinguishable =
@@ -40,5 +42,6 @@ if_solved c ranks (Ok b) each predicts classes infinite none = λ t. let same =
           → Indistinguishable IsHeap c.code X Y ↔ (triple_of f X ≡ triple_of f Y)) same (classes t);
       infinite = infinite t;
       no_claim = none t;
+      wins = wins t;
     }
-if_solved c ranks (Err e) each predicts classes infinite none = tt
+if_solved c ranks (Err e) each predicts classes infinite none wins = tt

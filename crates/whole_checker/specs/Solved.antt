@@ -5,6 +5,7 @@ use Rattle.misere_theory.specs.Games.{IsHeap, IsPosition, Indistinguishable}
 use Rattle.misere_theory.specs.Labels.{PredictsOutcomes, says_by}
 use Rattle.misere_theory.specs.Parts.{IsInfinite}
 use Rattle.misere_theory.specs.Quotients.{Claim, Represents}
+use Rattle.dominance.specs.Finite.{HasSmallWins}
 use Rattle.dominance.specs.Triples.{claim_by, triple_of}
 use Rattle.dominance_text.specs.Said.{DominanceSaid}
 use Rattle.dominance_text.specs.Labels.{label_of}
@@ -13,13 +14,15 @@ use Rattle.infinite_answers.specs.Answers.{Why, Text, Undecided, Memory}
 
 -- What is said is right of the whole game, of any number of heaps of any size. The product of the heaps'
 -- triples tells the outcome of each position, and two positions are indistinguishable exactly if their
--- triples are equal. There are infinitely many classes, and no finite claim is the quotient.
+-- triples are equal. There are infinitely many classes, and no finite claim is the quotient. If a move wins,
+-- one wins that leaves at most one heap from start on.
 pub record IsSolved (c : DominanceSaid) : Type 0 where
   pub predicts : PredictsOutcomes IsHeap c.code (says_by (claim_by (label_of c)))
   pub indistinguishable : (X Y : List ℕ) → IsPosition IsHeap X → IsPosition IsHeap Y
       → Indistinguishable IsHeap c.code X Y ↔ (triple_of (label_of c) X ≡ triple_of (label_of c) Y)
   pub infinite : IsInfinite IsHeap c.code
   pub no_claim : (d : Claim) → Represents IsHeap c.code d → ⊥
+  pub wins : HasSmallWins c.code c.start
 
 -- The bytes are refused: Text if they spell nothing, Memory at any time, and Undecided if they spell
 -- something that the test doesn't show to be right. It may be right all the same.

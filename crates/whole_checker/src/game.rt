@@ -1,5 +1,6 @@
 //! Whole games that were checked.
 ghost use Rattle.std.specs.Prelude.{◌≡◌};
+ghost use Rattle.dominance_text.specs.Said.{IsInRanges};
 ghost use Rattle.whole_checker.specs.Solved.{IsSolved};
 
 use dominance_certificate::DominanceText;
@@ -15,20 +16,21 @@ pub struct WholeGame<A: Allocator = Global> {
 }
 
 impl<A: Allocator> Model for WholeGame<A> {
-    ghost use Rattle.dominance_text.specs.Said.{DominanceSaid};
+    ghost use Rattle.dominance_text.specs.Said.{DominanceSaid, IsInRanges};
     ghost use Rattle.whole_checker.specs.Solved.{IsSolved};
 
     ghost Value = { DominanceSaid };
 
     ghost view = { λ s. s.text };
 
-    ghost invariant = { λ s. IsSolved s.text };
+    ghost invariant = { λ s. IsInRanges s.text × IsSolved s.text };
 }
 
 impl<A: Allocator> WholeGame<A> {
     /// Keeps a text that is right.
     pub(crate) fn new(text: DominanceText<A>) -> WholeGame<A>
-        requires { IsSolved text }
+        requires ranges { IsInRanges text }
+        requires solved { IsSolved text }
         ensures { result ≡ text }
     {
         WholeGame { text }
@@ -37,6 +39,7 @@ impl<A: Allocator> WholeGame<A> {
     /// What the text says. It takes no memory.
     pub fn text(&self) -> &DominanceText<A>
         ensures same { result.now ≡ self.now }
+        ensures ranges { IsInRanges self.now }
         ensures solved { IsSolved self.now }
     {
         &self.text

@@ -16,4 +16,4 @@ returns g c =
     (subst (λ (rs : List Rank). (n : ℕ) → triple_in (rank_at rs n) ≡ listed_triple c.args.text.now n)
     (sym c.deref.ensures.value) c.in_ok-ranks.ensures))
     c.is_accepted.ensures.outcomes c.is_accepted.ensures.indistinguishable
-    c.is_accepted.ensures.infinite c.is_accepted.ensures.no_claim)
+    c.is_accepted.ensures.infinite c.is_accepted.ensures.no_claim c.is_accepted.ensures.wins)
