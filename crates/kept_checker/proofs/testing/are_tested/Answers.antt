@@ -1,0 +1,10 @@
+use Rattle.std.proofs.Common.{refl, arith}
+use Rattle.kept_checker.proofs.testing.are_tested.Goals as goal
+
+pub returns : goal.returns
+returns g c = λ u. record {
+  empty = c.if-not-is_empty_found.ensures refl;
+  labels = grind arith;
+  made = c.if-not-are_made.ensures refl;
+  closed = c.are_closed.ensures u;
+}

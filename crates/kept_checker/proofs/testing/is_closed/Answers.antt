@@ -1,0 +1,10 @@
+use Rattle.std.proofs.Common.{refl, arith}
+use Rattle.kept_checker.specs.Numbers.{IsClosedWith}
+use Rattle.kept_checker.proofs.Below.{below}
+use Rattle.kept_checker.proofs.testing.is_closed.Goals as goal
+
+pub loop-g-preserved : goal.loop-g-preserved
+loop-g-preserved g c = below (λ m. IsClosedWith c.args.t.now c.args.k.now c.args.i m) c.loop-g.g c.loop-g.invariant (c.if-not-is_closed_with.ensures refl)
+
+pub returns : goal.returns
+returns g c = λ u m h. c.loop-g.invariant m (grind arith)
