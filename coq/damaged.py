@@ -2,6 +2,7 @@
 
 from __future__ import annotations
 
+import pathlib
 import re
 from collections.abc import Iterator, Sequence
 
@@ -32,14 +33,19 @@ def changes(lines: list[str], at: int) -> Iterator[list[str]]:
         yield [*before, line.rsplit(" ", 1)[0], *after]
 
 
+def ways_of(file: pathlib.Path) -> list[list[list[str]]]:
+    """How each line of a sample is changed. What is said of a whole game may be right of another code too, so that line
+    of such a text is left."""
+    lines = file.read_text().splitlines()
+    is_left = [file.suffix == ".mqw" and line.startswith("code ") for line in lines]
+    return [[] if is_left[at] else list(changes(lines, at)) for at in range(len(lines))]
+
+
 def damaged_texts(samples: Sequence[str] = SAMPLES) -> list[Text]:
-    """Two hundred of some samples."""
+    """Two hundred of some samples, or as many as there are."""
     made: list[Text] = []
     files = [root / sample for sample in samples]
-    rounds = [
-        [list(changes(lines, at)) for at in range(len(lines))]
-        for lines in (file.read_text().splitlines() for file in files)
-    ]
+    rounds = [ways_of(file) for file in files]
     for way in range(3):
         for file, lines in zip(files, rounds):
             for at, ways in enumerate(lines):
