@@ -2,3 +2,4 @@ mod Folded
 mod InPlane
 mod Inside
 mod Labelled
+mod Stopped

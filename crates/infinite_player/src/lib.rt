@@ -1,4 +1,5 @@
-//! Playing by an infinite quotient: the outcome of a position, and the first winning move.
+//! Playing by an infinite quotient, of some heaps by a certificate with tracks, or of a whole game by
+//! triples: the outcome of a position, and a winning move.
 #![tactic(auto)]
 
 mod counting;
@@ -7,8 +8,11 @@ mod places;
 mod play;
 mod regions;
 mod tracks;
+mod triples;
+mod whole;
 
 pub use laws::plays_stay_inside;
 pub use play::{answer, answer_at, fits, outcome, outcome_at, speaks_of};
 pub use player::Answer;
 pub use positions::Outcome;
+pub use whole::{whole_answer, whole_outcome};
