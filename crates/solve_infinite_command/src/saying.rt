@@ -5,6 +5,7 @@ ghost use Rattle.solve_infinite_command.specs.Found.{Finds, IsFound, reason_line
 
 use allocation::Memory;
 use command_results::{Said, Stop};
+use dominance_finder::find_whole;
 use infinite_finder::{FoundInfinite, Unfound, find_infinite};
 use octal_code::Code;
 use requests::PartsBounds;
@@ -31,8 +32,8 @@ fn reason_line(alloc: Global, why: Unfound) -> Result<String, Memory>
     Ok(text)
 }
 
-/// Looks for a certificate of the code, and says it, or why none was found.
-fn found(alloc: Global, code: &Code, bounds: PartsBounds) -> Result<Said, Memory>
+/// Looks for a certificate with tracks of the code, and says it, or why none was found.
+fn tracked(alloc: Global, code: &Code, bounds: PartsBounds) -> Result<Said, Memory>
     ensures { IfOk result (λ s. Finds code.now bounds s.text.items s.succeeds) }
 {
     let heaps = bounds.heaps as usize;
@@ -53,10 +54,24 @@ fn found(alloc: Global, code: &Code, bounds: PartsBounds) -> Result<Said, Memory
     })
 }
 
-/// Looks for the first part of the game whose code the word is, of the heaps 1 to some heap up to
-/// `bounds.heaps`, that has no finite quotient. Says the certificate with tracks that shows it, which
-/// was accepted, with at most `bounds.order` elements and where at most `bounds.limit` pairs are kept;
-/// or why none was found, which claims nothing of the game.
+/// Looks for the text of the whole game of the code, and says it; else for a certificate with tracks.
+fn found(alloc: Global, code: &Code, bounds: PartsBounds) -> Result<Said, Memory>
+    ensures { IfOk result (λ s. Finds code.now bounds s.text.items s.succeeds) }
+{
+    match find_whole(alloc, code)? {
+        Some(text) => Ok(Said {
+            text,
+            succeeds: true,
+        }),
+        None => tracked(alloc, code, bounds),
+    }
+}
+
+/// Looks for the text of the whole game whose code the word is: it says the outcome of every position, and
+/// that the quotient is infinite. If none is found, looks for the first part of the game, of the heaps 1 to
+/// some heap up to `bounds.heaps`, that has no finite quotient. Says the certificate with tracks that shows
+/// it, with at most `bounds.order` elements and where at most `bounds.limit` pairs are kept. What it says
+/// was accepted; or it says why nothing was found, which claims nothing of the game.
 pub fn solve_infinite(alloc: Global, word: &str, bounds: PartsBounds) -> Result<Said, Stop<'static>>
     ensures says { IfOk result (λ s. IsFound word.now bounds s.text.items s.succeeds) }
     ensures stops { IfErr result (IsSolveCause word.now) }
