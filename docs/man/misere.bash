@@ -5,14 +5,14 @@ _misere() {
         case ${COMP_WORDS[i]} in -*) ;; *) command=${COMP_WORDS[i]}; break ;; esac
     done
     case $command in
-        '') options="check solve series show describe play compare certify explain present catalogue desk infinite tail help --help --version" ;;
-        help) options="check solve series show describe play compare certify explain present catalogue desk infinite tail help" ;;
+        '') options="check solve series show describe play compare certify explain present catalogue desk infinite tail verify value apart help --help --version" ;;
+        help) options="check solve series show describe play compare certify explain present catalogue desk infinite tail verify value apart help" ;;
         check) options="--limit --help" ;;
         solve) options="--limit --rounds --heaps --deep --any --partial --furthest --order --why --infinite --help" ;;
         series) options="--order --heaps --limit --help" ;;
         show) options="--limit --help" ;;
         describe) options="--latex --basis --relations --json --singular --gap --limit --help" ;;
-        play) options="--limit --help" ;;
+        play) options="--all --limit --help" ;;
         compare) options="--limit --help" ;;
         certify) options="--limit --help" ;;
         explain) options="--code --position --help" ;;
@@ -21,6 +21,9 @@ _misere() {
         desk) options="--help" ;;
         infinite) options="--show --latex --json --limit --help" ;;
         tail) options="--limit --help" ;;
+        verify) options="--limit --help" ;;
+        value) options="--limit --help" ;;
+        apart) options="--limit --help" ;;
     esac
     COMPREPLY=()
     case $before in
@@ -35,6 +38,6 @@ _misere() {
         COMPREPLY=($(compgen -W "$options" -- "$word"))
         return
     fi
-    case $command in check | show | describe | play | compare | certify | explain | catalogue | desk | infinite | tail) COMPREPLY=($(compgen -f -- "$word")) ;; esac
+    case $command in check | show | describe | play | compare | certify | explain | catalogue | desk | infinite | tail | verify | value | apart) COMPREPLY=($(compgen -f -- "$word")) ;; esac
 }
 complete -o filenames -F _misere misere

@@ -18,8 +18,11 @@ complete -c misere -n __fish_use_subcommand -a catalogue -d 'List the certificat
 complete -c misere -n __fish_use_subcommand -a desk -d 'Take the steps of a script, many checks at one desk, and print a line for each'
 complete -c misere -n __fish_use_subcommand -a infinite -d 'Check a certificate of an infinite quotient, and print what it shows'
 complete -c misere -n __fish_use_subcommand -a tail -d 'Check a partial certificate, and say beyond which heap its whole game is normal play'
+complete -c misere -n __fish_use_subcommand -a verify -d 'Check a text of any kind, and print the verdict'
+complete -c misere -n __fish_use_subcommand -a value -d 'Check a certificate, and print the element of a position'
+complete -c misere -n __fish_use_subcommand -a apart -d 'Check a certificate, and print a position that tells two positions apart'
 complete -c misere -n __fish_use_subcommand -a help -d 'Print this message or the help of the given subcommand(s)'
-complete -c misere -n '__fish_seen_subcommand_from help' -a 'check solve series show describe play compare certify explain present catalogue desk infinite tail'
+complete -c misere -n '__fish_seen_subcommand_from help' -a 'check solve series show describe play compare certify explain present catalogue desk infinite tail verify value apart'
 complete -c misere -n __fish_use_subcommand -l help -d 'Print help'
 complete -c misere -n __fish_use_subcommand -l version -d 'Print version'
 complete -c misere -n '__fish_seen_subcommand_from check; and not __fish_seen_subcommand_from help' -F
@@ -53,6 +56,7 @@ complete -c misere -n '__fish_seen_subcommand_from describe; and not __fish_seen
 complete -c misere -n '__fish_seen_subcommand_from describe; and not __fish_seen_subcommand_from help' -l limit -x -d 'Keep at most N members of a closure: 1 to 1000000, by default 100000'
 complete -c misere -n '__fish_seen_subcommand_from describe; and not __fish_seen_subcommand_from help' -l help -d 'Print help'
 complete -c misere -n '__fish_seen_subcommand_from play; and not __fish_seen_subcommand_from help' -F
+complete -c misere -n '__fish_seen_subcommand_from play; and not __fish_seen_subcommand_from help' -l all -d 'Print each winning move'
 complete -c misere -n '__fish_seen_subcommand_from play; and not __fish_seen_subcommand_from help' -l limit -x -d 'Keep at most N members of a closure: 1 to 1000000, by default 100000'
 complete -c misere -n '__fish_seen_subcommand_from play; and not __fish_seen_subcommand_from help' -l help -d 'Print help'
 complete -c misere -n '__fish_seen_subcommand_from compare; and not __fish_seen_subcommand_from help' -F
@@ -88,3 +92,12 @@ complete -c misere -n '__fish_seen_subcommand_from infinite; and not __fish_seen
 complete -c misere -n '__fish_seen_subcommand_from tail; and not __fish_seen_subcommand_from help' -F
 complete -c misere -n '__fish_seen_subcommand_from tail; and not __fish_seen_subcommand_from help' -l limit -x -d 'Keep at most N members of a closure: 1 to 1000000, by default 100000'
 complete -c misere -n '__fish_seen_subcommand_from tail; and not __fish_seen_subcommand_from help' -l help -d 'Print help'
+complete -c misere -n '__fish_seen_subcommand_from verify; and not __fish_seen_subcommand_from help' -F
+complete -c misere -n '__fish_seen_subcommand_from verify; and not __fish_seen_subcommand_from help' -l limit -x -d 'Keep at most N members of a closure: 1 to 1000000, by default 100000'
+complete -c misere -n '__fish_seen_subcommand_from verify; and not __fish_seen_subcommand_from help' -l help -d 'Print help'
+complete -c misere -n '__fish_seen_subcommand_from value; and not __fish_seen_subcommand_from help' -F
+complete -c misere -n '__fish_seen_subcommand_from value; and not __fish_seen_subcommand_from help' -l limit -x -d 'Keep at most N members of a closure: 1 to 1000000, by default 100000'
+complete -c misere -n '__fish_seen_subcommand_from value; and not __fish_seen_subcommand_from help' -l help -d 'Print help'
+complete -c misere -n '__fish_seen_subcommand_from apart; and not __fish_seen_subcommand_from help' -F
+complete -c misere -n '__fish_seen_subcommand_from apart; and not __fish_seen_subcommand_from help' -l limit -x -d 'Keep at most N members of a closure: 1 to 1000000, by default 100000'
+complete -c misere -n '__fish_seen_subcommand_from apart; and not __fish_seen_subcommand_from help' -l help -d 'Print help'

@@ -45,6 +45,7 @@ ArePartsWithin order bounds = IsWithin Limit bounds.limit × IsWithin order boun
 -- each number lies in its range
 abbrev pub HasNumbersWithin : Plan → Type 0
 HasNumbersWithin (plan.Check file limit) = IsWithin Limit limit
+HasNumbersWithin (plan.Verify file limit) = IsWithin Limit limit
 HasNumbersWithin (plan.Solve code bounds) = AreWithin bounds
 HasNumbersWithin (plan.SolveMany codes bounds) = AreWithin bounds
 HasNumbersWithin (plan.SolveLines bounds) = AreWithin bounds
@@ -55,6 +56,9 @@ HasNumbersWithin (plan.Tail file limit) = IsWithin Limit limit
 HasNumbersWithin (plan.Describe file output basis limit) = IsWithin Limit limit
 HasNumbersWithin (plan.Play file position limit) = IsWithin Limit limit
 HasNumbersWithin (plan.PlayLines file limit) = IsWithin Limit limit
+HasNumbersWithin (plan.Wins file position limit) = IsWithin Limit limit
+HasNumbersWithin (plan.Value file position limit) = IsWithin Limit limit
+HasNumbersWithin (plan.Apart file first second limit) = IsWithin Limit limit
 HasNumbersWithin (plan.Compare first second limit) = IsWithin Limit limit
 HasNumbersWithin (plan.Certify file limit) = IsWithin Limit limit
 HasNumbersWithin (plan.Explain file) = ⊤

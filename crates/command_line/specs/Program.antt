@@ -34,6 +34,10 @@ command name rules = record (new_app name) { top = record (new_app name).top { r
 abbrev pub check : App
 check = command (codes "check") (optional (codes "file") ∷ option (codes "limit") ∷ [])
 
+-- verify [FILE] [--limit N]
+abbrev pub verify : App
+verify = command (codes "verify") (optional (codes "file") ∷ option (codes "limit") ∷ [])
+
 -- solve CODE.. [--limit N] [--rounds R] [--heaps M] [--deep] [--any] [--partial M] [--furthest Q]
 -- [--order Q] [--why] [--infinite]
 abbrev pub solve : App
@@ -60,10 +64,22 @@ describe = command (codes "describe")
     ∷ flag (codes "relations") ∷ flag (codes "json") ∷ flag (codes "singular")
     ∷ flag (codes "gap") ∷ option (codes "limit") ∷ [])
 
--- play FILE POSITION [--limit N]
+-- play FILE POSITION [--all] [--limit N]
 abbrev pub play : App
 play = command (codes "play")
+    (needed (codes "file") ∷ needed (codes "position") ∷ flag (codes "all")
+    ∷ option (codes "limit") ∷ [])
+
+-- value FILE POSITION [--limit N]
+abbrev pub value : App
+value = command (codes "value")
     (needed (codes "file") ∷ needed (codes "position") ∷ option (codes "limit") ∷ [])
+
+-- apart FILE POSITION POSITION [--limit N]
+abbrev pub apart : App
+apart = command (codes "apart")
+    (needed (codes "file") ∷ needed (codes "first") ∷ needed (codes "second")
+    ∷ option (codes "limit") ∷ [])
 
 -- compare FILE FILE [--limit N]
 abbrev pub compare : App
@@ -114,7 +130,7 @@ misere = record (new_app (codes "misere")) {
 abbrev pub commands : List App
 commands =
     check ∷ solve ∷ series ∷ show ∷ describe ∷ play ∷ compare ∷ certify ∷ explain ∷ present
-    ∷ catalogue ∷ desk ∷ infinite ∷ tail ∷ []
+    ∷ catalogue ∷ desk ∷ infinite ∷ tail ∷ verify ∷ value ∷ apart ∷ []
 
 -- the whole command line
 abbrev pub program : App

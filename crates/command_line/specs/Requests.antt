@@ -20,7 +20,7 @@ use Rattle.requests.specs.Requests.{CatalogueRequest, Request}
 use Rattle.requests.specs.Requests.CatalogueRequest.{Print, Table, New, Add, NewWith, Get, Salvage, Migrate}
 use Rattle.requests.specs.Requests.Request.{Check, Solve, SolveMany, SolveLines, Show, Describe, Play, PlayLines, Present, Catalogue, Desk}
 use Rattle.requests.specs.Requests.Request.{SolveInfinite, Series, Tail, Compare, Certify, Explain, Infinite, ShowInfinite, PlayInfinite}
-use Rattle.requests.specs.Requests.Request.{PlayInfiniteLines}
+use Rattle.requests.specs.Requests.Request.{PlayInfiniteLines, Verify, Wins, Value, Apart}
 use Rattle.requests.specs.declared.plans.Aim.{Aim}
 use Rattle.requests.specs.declared.plans.Aim.TheVariants as aim
 use Rattle.requests.specs.declared.plans.SolveBounds.{SolveBounds}
@@ -51,6 +51,10 @@ named_by (Some word) = if bytes_eq word (codes "-") then None else Some word
 
 abbrev pub check_request : List Row → Option Request
 check_request rows = option_map (λ limit. Check (named_by (first_of (codes "file") rows)) limit)
+    (number_of Limit rows)
+
+abbrev pub verify_request : List Row → Option Request
+verify_request rows = option_map (λ limit. Verify (named_by (first_of (codes "file") rows)) limit)
     (number_of Limit rows)
 
 abbrev pub show_with : Option Text → Option ℕ → Option Request
@@ -238,21 +242,53 @@ abbrev pub play_lines_with : Option Text → ℕ → Option Request
 play_lines_with None limit = None
 play_lines_with (Some file) limit = Some (PlayLines file limit)
 
-abbrev pub play_with : Option Text → Option Text → Option ℕ → Option Request
-play_with (Some file) (Some position) (Some limit) =
+abbrev pub play_with : Option Text → Option Text → (all : Bool) → Option ℕ → Option Request
+play_with (Some file) (Some position) false (Some limit) =
     if bytes_eq position (codes "-")
     then play_lines_with (named_by (Some file)) limit
     else Some (Play (named_by (Some file)) position limit)
-play_with _ _ _ = None
+play_with (Some file) (Some position) true (Some limit) =
+    if bytes_eq position (codes "-")
+    then None
+    else Some (Wins (named_by (Some file)) position limit)
+play_with _ _ _ _ = None
 
 abbrev pub play_request : List Row → Option Request
 play_request rows = play_with (first_of (codes "file") rows) (first_of (codes "position") rows)
-    (number_of Limit rows)
+    (is_set (codes "all") rows) (number_of Limit rows)
 
 -- the certificate and the positions both stand on standard input
 abbrev pub play_conflicts : List Row → Bool
 play_conflicts rows =
     is_input (first_of (codes "file") rows) && is_input (first_of (codes "position") rows)
+
+-- the same, or all winning moves are asked for in each of the positions on standard input
+abbrev pub all_conflicts : List Row → Bool
+all_conflicts rows =
+    (is_set (codes "all") rows && is_input (first_of (codes "position") rows))
+    || play_conflicts rows
+
+-- by which of the two faults it is told
+abbrev pub all_exclusion : List Row → Option Exclusion
+all_exclusion rows = if is_set (codes "all") rows then Some exclusion.All else Some exclusion.Play
+
+abbrev pub value_with : Option Text → Option Text → Option ℕ → Option Request
+value_with (Some file) (Some position) (Some limit) =
+    Some (Value (named_by (Some file)) position limit)
+value_with _ _ _ = None
+
+abbrev pub value_request : List Row → Option Request
+value_request rows = value_with (first_of (codes "file") rows) (first_of (codes "position") rows)
+    (number_of Limit rows)
+
+abbrev pub apart_with : Option Text → Option Text → Option Text → Option ℕ → Option Request
+apart_with (Some file) (Some first) (Some second) (Some limit) =
+    Some (Apart (named_by (Some file)) first second limit)
+apart_with _ _ _ _ = None
+
+abbrev pub apart_request : List Row → Option Request
+apart_request rows = apart_with (first_of (codes "file") rows) (first_of (codes "first") rows)
+    (first_of (codes "second") rows) (number_of Limit rows)
 
 -- one of two certificates may stand on standard input
 abbrev pub compare_with : Option Text → Option Text → Option ℕ → Option Request
@@ -498,8 +534,8 @@ play = record {
   app = Program.play;
   request = play_request;
   numbers = λ rows. Limit ∷ [];
-  conflicts = play_conflicts;
-  exclusion = λ rows. Some exclusion.Play;
+  conflicts = all_conflicts;
+  exclusion = all_exclusion;
 }
 
 abbrev pub compare : Asking
@@ -550,10 +586,19 @@ infinite = record {
 abbrev pub tail : Asking
 tail = record { app = Program.tail; request = tail_request; numbers = λ rows. Limit ∷ []; conflicts = never; exclusion = untold }
 
+abbrev pub verify : Asking
+verify = record { app = Program.verify; request = verify_request; numbers = λ rows. Limit ∷ []; conflicts = never; exclusion = untold }
+
+abbrev pub value : Asking
+value = record { app = Program.value; request = value_request; numbers = λ rows. Limit ∷ []; conflicts = never; exclusion = untold }
+
+abbrev pub apart : Asking
+apart = record { app = Program.apart; request = apart_request; numbers = λ rows. Limit ∷ []; conflicts = never; exclusion = untold }
+
 abbrev pub commands : List Asking
 commands =
     check ∷ solve ∷ series ∷ show ∷ describe ∷ play ∷ compare ∷ certify ∷ explain ∷ present
-    ∷ catalogue ∷ desk ∷ infinite ∷ tail ∷ []
+    ∷ catalogue ∷ desk ∷ infinite ∷ tail ∷ verify ∷ value ∷ apart ∷ []
 
 abbrev pub command_named : Text → Option Asking
 command_named name = find (λ c. bytes_eq c.app.top.name name) commands

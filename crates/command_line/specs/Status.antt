@@ -32,6 +32,7 @@ range_text SeriesLast = codes "misere: the heaps are a number from 1 to 1024\n"
 range_text InfiniteOrder = codes "misere: the order is a number from 2 to 4096\n"
 
 abbrev pub exclusion_text : Exclusion → Text
+exclusion_text exclusion.All = codes "misere: --all takes one position\n"
 exclusion_text exclusion.Catalogue =
     codes "misere: --heaps goes with --get, --json with --table, --get without --new and --add, --salvage, --migrate and --table alone\n"
 exclusion_text exclusion.Compare =

@@ -3,7 +3,7 @@ ghost use Rattle.std.specs.Prelude.{◌≡◌, ◌≢◌, None, Some, false, IfO
 ghost use Rattle.command_line.specs.Plans.{HasNumbersWithin};
 ghost use Rattle.command_line.specs.Refusals.{Answers, IsMistake, IsMistakeIn, conflicts_in};
 ghost use Rattle.command_line.specs.Requests.{arguments_of, certify, check, compare, describe, describe_conflicts, desk, explain, infinite, is_set, layout_conflicts, layout_in, output_in, play};
-ghost use Rattle.command_line.specs.Requests.{present, request_in, show, tail};
+ghost use Rattle.command_line.specs.Requests.{apart, present, request_in, show, tail, value, verify};
 ghost use Rattle.command_line.specs.Requests.{explain_conflicts, word_given, word_in, word_request_of};
 ghost use Rattle.command_line.specs.Wanted.{IsAskedIn};
 ghost use Rattle.requests.specs.Requests.{request_of};
@@ -24,6 +24,14 @@ fn check_plan<'a>(given: &ArgMatches<'a>) -> Result<Plan<'a>, UsageFault>
     let file = named_by(value(given, "file"));
     let limit = number(given, Quantity::Limit)?;
     Ok(Plan::Check { file, limit })
+}
+
+fn verify_plan<'a>(given: &ArgMatches<'a>) -> Result<Plan<'a>, UsageFault>
+    ensures { Answers verify (arguments_of given.now) result }
+{
+    let file = named_by(value(given, "file"));
+    let limit = number(given, Quantity::Limit)?;
+    Ok(Plan::Verify { file, limit })
 }
 
 fn show_plan<'a>(given: &ArgMatches<'a>) -> Result<Plan<'a>, UsageFault>
@@ -88,15 +96,49 @@ fn play_plan<'a>(given: &ArgMatches<'a>) -> Result<Plan<'a>, UsageFault>
     let file = named_by(Some(needed(given, "file")?));
     let position = needed(given, "position")?;
     let limit = number(given, Quantity::Limit)?;
-    match (position, file) {
-        ("-", Some(file)) => Ok(Plan::PlayLines { file, limit }),
-        ("-", None) => Err(UsageFault::Exclusive(Exclusion::Play)),
-        (position, file) => Ok(Plan::Play {
+    match (position, flag(given, "all"), file) {
+        ("-", true, _) => Err(UsageFault::Exclusive(Exclusion::All)),
+        ("-", false, Some(file)) => Ok(Plan::PlayLines { file, limit }),
+        ("-", false, None) => Err(UsageFault::Exclusive(Exclusion::Play)),
+        (position, true, file) => Ok(Plan::Wins {
+            file,
+            position,
+            limit,
+        }),
+        (position, false, file) => Ok(Plan::Play {
             file,
             position,
             limit,
         }),
     }
+}
+
+fn value_plan<'a>(given: &ArgMatches<'a>) -> Result<Plan<'a>, UsageFault>
+    ensures { Answers value (arguments_of given.now) result }
+{
+    let file = named_by(Some(needed(given, "file")?));
+    let position = needed(given, "position")?;
+    let limit = number(given, Quantity::Limit)?;
+    Ok(Plan::Value {
+        file,
+        position,
+        limit,
+    })
+}
+
+fn apart_plan<'a>(given: &ArgMatches<'a>) -> Result<Plan<'a>, UsageFault>
+    ensures { Answers apart (arguments_of given.now) result }
+{
+    let file = named_by(Some(needed(given, "file")?));
+    let first = needed(given, "first")?;
+    let second = needed(given, "second")?;
+    let limit = number(given, Quantity::Limit)?;
+    Ok(Plan::Apart {
+        file,
+        first,
+        second,
+        limit,
+    })
 }
 
 fn compare_plan<'a>(given: &ArgMatches<'a>) -> Result<Plan<'a>, UsageFault>
@@ -255,6 +297,9 @@ fn command_plan<'a>(
         "desk" => desk_plan(given),
         "infinite" => infinite_plan(given),
         "tail" => tail_plan(given),
+        "verify" => verify_plan(given),
+        "value" => value_plan(given),
+        "apart" => apart_plan(given),
         _ => Err(UsageFault::Incomplete),
     }
 }

@@ -1,8 +1,8 @@
 //! The commands and their arguments, as `clap` reads them.
 ghost use Rattle.std.specs.Prelude.{◌≡◌, ◌++◌, ◌∷◌, [], List, IfOk, codes, false, true};
 ghost use Rattle.clap.specs.Words.{App, Rule, Text, app_of, new_app, rule_of, with_subcommand};
-ghost use Rattle.command_line.specs.Program.{catalogue, certify, check, command, compare, describe, desk, explain, flag, infinite, misere, needed};
-ghost use Rattle.command_line.specs.Program.{option, optional, play, present, program, series, several, show, solve, tail};
+ghost use Rattle.command_line.specs.Program.{apart, catalogue, certify, check, command, compare, describe, desk, explain, flag, infinite, misere, needed};
+ghost use Rattle.command_line.specs.Program.{option, optional, play, present, program, series, several, show, solve, tail, value, verify};
 
 use clap::{Arg, ArgAction, Command};
 use std::alloc::{AllocError, Global};
@@ -15,6 +15,9 @@ const GIVEN: &str = "The file of the certificate; without it, or as -, standard 
 
 /// Where a certificate is.
 const NAMED: &str = "The file of the certificate; as - standard input";
+
+/// A position.
+const POSITION: &str = "The sizes of the heaps in one word, as '1 2 2'; 0 for no heap";
 
 /// An argument that may be left out, told by its place.
 fn optional<'a>(alloc: Global, name: &'a str, shown: &'a str, help: &'a str) -> Arg<'a>
@@ -199,7 +202,9 @@ fn play_command<'a>(alloc: Global) -> Result<Command<'a>, AllocError>
 standard input";
     let made = Ok(command(alloc, "play", about));
     let made = with_arg(made, needed(alloc, "file", "FILE", NAMED));
+    let all = "Print each winning move";
     let made = with_arg(made, needed(alloc, "position", "POSITION", position));
+    let made = with_arg(made, flag(alloc, "all", all));
     with_arg(made, limit(alloc))
 }
 
@@ -344,6 +349,37 @@ fn tail_command<'a>(alloc: Global) -> Result<Command<'a>, AllocError>
     with_arg(made, limit(alloc))
 }
 
+fn verify_command<'a>(alloc: Global) -> Result<Command<'a>, AllocError>
+    ensures { IfOk result (λ c. app_of c ≡ verify) }
+{
+    let about = "Check a text of any kind, and print the verdict";
+    let file = "The file of the text; without it, or as -, standard input";
+    let made = Ok(command(alloc, "verify", about));
+    let made = with_arg(made, optional(alloc, "file", "FILE", file));
+    with_arg(made, limit(alloc))
+}
+
+fn value_command<'a>(alloc: Global) -> Result<Command<'a>, AllocError>
+    ensures { IfOk result (λ c. app_of c ≡ value) }
+{
+    let about = "Check a certificate, and print the element of a position";
+    let made = Ok(command(alloc, "value", about));
+    let made = with_arg(made, needed(alloc, "file", "FILE", NAMED));
+    let made = with_arg(made, needed(alloc, "position", "POSITION", POSITION));
+    with_arg(made, limit(alloc))
+}
+
+fn apart_command<'a>(alloc: Global) -> Result<Command<'a>, AllocError>
+    ensures { IfOk result (λ c. app_of c ≡ apart) }
+{
+    let about = "Check a certificate, and print a position that tells two positions apart";
+    let made = Ok(command(alloc, "apart", about));
+    let made = with_arg(made, needed(alloc, "file", "FILE", NAMED));
+    let made = with_arg(made, needed(alloc, "first", "POSITION", POSITION));
+    let made = with_arg(made, needed(alloc, "second", "POSITION", POSITION));
+    with_arg(made, limit(alloc))
+}
+
 /// The program's command line.
 pub fn program_command<'a>(alloc: Global) -> Result<Command<'a>, AllocError>
     ensures { IfOk result (λ c. app_of c ≡ program) }
@@ -362,5 +398,8 @@ pub fn program_command<'a>(alloc: Global) -> Result<Command<'a>, AllocError>
     let program = with(program, catalogue_command(alloc));
     let program = with(program, desk_command(alloc));
     let program = with(program, infinite_command(alloc));
-    with(program, tail_command(alloc))
+    let program = with(program, tail_command(alloc));
+    let program = with(program, verify_command(alloc));
+    let program = with(program, value_command(alloc));
+    with(program, apart_command(alloc))
 }

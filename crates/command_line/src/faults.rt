@@ -7,6 +7,8 @@ use crate::numbers::Quantity;
 /// Options that exclude each other, by the command that takes them.
 #[derive(Clone, Copy, Debug, PartialEq, Eq)]
 pub enum Exclusion {
+    /// `--all` of `play` beside positions on standard input.
+    All,
     /// Those of `catalogue`, or one without that which it needs.
     Catalogue,
     /// The two certificates of `compare`, both on standard input.
@@ -68,6 +70,7 @@ fn exclusion_line(exclusion: Exclusion) -> &'static str
     ensures { result.now ≡ exclusion_text exclusion }
 {
     match exclusion {
+        Exclusion::All => "misere: --all takes one position\n",
         Exclusion::Catalogue => {
             "misere: --heaps goes with --get, --json with --table, --get without --new and --add, --salvage, --migrate and --table alone\n"
         }

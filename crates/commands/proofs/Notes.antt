@@ -10,6 +10,7 @@ use Rattle.requests.specs.declared.plans.Output.TheVariants.{Description, Latex,
 use Rattle.requests.specs.Requests.{Request}
 use Rattle.requests.specs.Requests.Request.{Check, Solve, SolveMany, SolveLines, Series, Show, Tail, Describe, Play, PlayLines, Present, Catalogue, Desk}
 use Rattle.requests.specs.Requests.Request.{Explain, Compare, Certify, SolveInfinite, Infinite, ShowInfinite, PlayInfinite, PlayInfiniteLines}
+use Rattle.requests.specs.Requests.Request.{Verify, Wins, Value, Apart}
 
 -- what has no text is nothing
 pub option_none : (told : Option (Bor (List ℕ)))
@@ -35,6 +36,7 @@ module _ (input : Option (List ℕ)) (before after : Option (List ℕ → Option
       → Says input before after request text succeeds
       → RespondsWith input before after request text succeeds None
   plainly (Check file limit) text succeeds h = (h, refl)
+  plainly (Verify file limit) text succeeds h = (h, refl)
   plainly (Explain file) text succeeds h = (h, refl)
   plainly (Solve code bounds) text succeeds h = (h, refl)
   plainly (SolveMany codes bounds) text succeeds h = (h, refl)
@@ -46,6 +48,9 @@ module _ (input : Option (List ℕ)) (before after : Option (List ℕ → Option
   plainly (Describe file output basis limit) text succeeds h = absurd h
   plainly (Play file position limit) text succeeds h = (h, refl)
   plainly (PlayLines file limit) text succeeds h = (h, refl)
+  plainly (Wins file position limit) text succeeds h = (h, refl)
+  plainly (Value file position limit) text succeeds h = (h, refl)
+  plainly (Apart file first second limit) text succeeds h = (h, refl)
   plainly (Compare first second limit) text succeeds h = (h, refl)
   plainly (Certify file limit) text succeeds h = (h, refl)
   plainly (Present presentation) text succeeds h = (h, refl)
@@ -61,6 +66,7 @@ module _ (input : Option (List ℕ)) (before after : Option (List ℕ → Option
       → notes (Some request) ≡ false
       → RespondsWith input before after request text succeeds told → told ≡ None
   silent (Check file limit) text succeeds told e h = h.1
+  silent (Verify file limit) text succeeds told e h = h.1
   silent (Explain file) text succeeds told e h = h.1
   silent (Solve code bounds) text succeeds told e h = h.1
   silent (SolveMany codes bounds) text succeeds told e h = h.1
@@ -73,6 +79,9 @@ module _ (input : Option (List ℕ)) (before after : Option (List ℕ → Option
       silent_description _ file output basis limit text succeeds told e h
   silent (Play file position limit) text succeeds told e h = h.1
   silent (PlayLines file limit) text succeeds told e h = h.1
+  silent (Wins file position limit) text succeeds told e h = h.1
+  silent (Value file position limit) text succeeds told e h = h.1
+  silent (Apart file first second limit) text succeeds told e h = h.1
   silent (Compare first second limit) text succeeds told e h = h.1
   silent (Certify file limit) text succeeds told e h = h.1
   silent (Present presentation) text succeeds told e h = h.1

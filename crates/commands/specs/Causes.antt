@@ -12,10 +12,12 @@ use Rattle.command_results.specs.declared.stop.Stop.{Stop}
 use Rattle.folders.specs.declared.folder.Folder as folder
 use Rattle.play_command.specs.Many.{IsPlayLinesCause}
 use Rattle.play_command.specs.Plays.{IsPlayCause}
+use Rattle.position_commands.specs.Said.{IsApartCause}
 use Rattle.requests.specs.declared.plans.Output.TheVariants.{Relations}
 use Rattle.requests.specs.Requests.{Request}
 use Rattle.requests.specs.Requests.Request.{Check, Solve, SolveMany, SolveLines, Series, Show, Tail, Describe, Play, PlayLines, Present, Catalogue, Desk}
 use Rattle.requests.specs.Requests.Request.{Explain, Compare, Certify, SolveInfinite, Infinite, ShowInfinite, PlayInfinite, PlayInfiniteLines}
+use Rattle.requests.specs.Requests.Request.{Verify, Wins, Value, Apart}
 use Rattle.solve_command.specs.Solved.{IsSolveCause}
 use Rattle.streams.specs.declared.source.Source as source
 use Rattle.verdict_texts.specs.Streams.{AreKnownAs}
@@ -43,6 +45,8 @@ given f = check.failed f.input f.reads
 abbrev pub IsCause : Option (List ℕ) → Request → Failed → Failed → Stop → Type 0
 IsCause input (Check file limit) before after stop =
     IsGivenCause file (given before) (given after) stop
+IsCause input (Verify file limit) before after stop =
+    IsGivenCause file (given before) (given after) stop
 IsCause input (Explain file) before after stop =
     IsGivenCause file (given before) (given after) stop
 IsCause input (Solve code bounds) before after stop = IsSolveCause code stop
@@ -61,6 +65,12 @@ IsCause input (Play file position limit) before after stop =
     IsPlayCause file position (given before) (given after) stop
 IsCause input (PlayLines file limit) before after stop =
     IsPlayLinesCause file (AreLinesOf input) (given before) (given after) stop
+IsCause input (Wins file position limit) before after stop =
+    IsPlayCause file position (given before) (given after) stop
+IsCause input (Value file position limit) before after stop =
+    IsPlayCause file position (given before) (given after) stop
+IsCause input (Apart file first second limit) before after stop =
+    IsApartCause file first second (given before) (given after) stop
 IsCause input (Compare first second limit) before after stop =
     IsCompareCause first second (given before) (given after) stop
 IsCause input (Certify file limit) before after stop =
@@ -82,12 +92,16 @@ IsCause input (PlayInfiniteLines file limit) before after stop =
 -- the request reads standard input
 abbrev pub reads_input : Option Request → Bool
 reads_input (Some (Check file limit)) = is_none file
+reads_input (Some (Verify file limit)) = is_none file
 reads_input (Some (Explain file)) = is_none file
 reads_input (Some (Show file limit)) = is_none file
 reads_input (Some (Tail file limit)) = is_none file
 reads_input (Some (Describe file output basis limit)) = is_none file
 reads_input (Some (Play file position limit)) = is_none file
 reads_input (Some (PlayLines file limit)) = true
+reads_input (Some (Wins file position limit)) = is_none file
+reads_input (Some (Value file position limit)) = is_none file
+reads_input (Some (Apart file first second limit)) = is_none file
 reads_input (Some (Compare first second limit)) = is_none first || is_none second
 reads_input (Some (Certify file limit)) = is_none file
 reads_input (Some (SolveLines bounds)) = true
@@ -100,12 +114,16 @@ reads_input _ = false
 -- the request reads or writes files
 abbrev pub takes_files : Option Request → Bool
 takes_files (Some (Check file limit)) = is_some file
+takes_files (Some (Verify file limit)) = is_some file
 takes_files (Some (Explain file)) = is_some file
 takes_files (Some (Show file limit)) = is_some file
 takes_files (Some (Tail file limit)) = is_some file
 takes_files (Some (Describe file output basis limit)) = is_some file
 takes_files (Some (Play file position limit)) = is_some file
 takes_files (Some (PlayLines file limit)) = true
+takes_files (Some (Wins file position limit)) = is_some file
+takes_files (Some (Value file position limit)) = is_some file
+takes_files (Some (Apart file first second limit)) = is_some file
 takes_files (Some (Compare first second limit)) = is_some first || is_some second
 takes_files (Some (Certify file limit)) = is_some file
 takes_files (Some (Catalogue file task limit)) = true

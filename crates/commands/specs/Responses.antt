@@ -14,16 +14,20 @@ use Rattle.infinite_command.specs.Plays.{PlaysInfinite}
 use Rattle.infinite_command.specs.Shown.{ShowsInfinite}
 use Rattle.play_command.specs.Many.{AreFileOf, PlaysLines}
 use Rattle.play_command.specs.Plays.{Plays}
+use Rattle.position_commands.specs.Said.{Asks, AsksOfTwo}
+use Rattle.position_commands.specs.declared.asking.Question.TheVariants as question
 use Rattle.present_command.specs.Presented.{Presents}
 use Rattle.requests.specs.Requests.{Request}
 use Rattle.requests.specs.Requests.Request.{Check, Solve, SolveMany, SolveLines, Series, Show, Tail, Describe, Play, PlayLines, Present, Catalogue, Desk}
 use Rattle.requests.specs.Requests.Request.{Explain, Compare, Certify, SolveInfinite, Infinite, ShowInfinite, PlayInfinite, PlayInfiniteLines}
+use Rattle.requests.specs.Requests.Request.{Verify, Wins, Value, Apart}
 use Rattle.series_command.specs.Series.{IsSeries}
 use Rattle.show_command.specs.Shown.{Shows}
 use Rattle.tail_command.specs.Lines.{Tails}
 use Rattle.solve_command.specs.Many.{AnswersCodes, SolvesLines}
 use Rattle.solve_command.specs.Solved.{Solves}
 use Rattle.solve_infinite_command.specs.Found.{IsFound}
+use Rattle.verify_command.specs.Verifies.{Verifies}
 
 -- What is said for each request, by what is left of standard input and by the files. What files
 -- hold then is said here of a catalogue alone; the other requests leave every file as it is. A
@@ -32,6 +36,8 @@ abbrev pub Says : Option (List ℕ) → Option (List ℕ → Option (List ℕ))
     → Option (List ℕ → Option (List ℕ)) → Request → List ℕ → Bool → Type 0
 Says input before after (Check file limit) text succeeds =
     Checks (AreGiven input before file) limit text succeeds
+Says input before after (Verify file limit) text succeeds =
+    Verifies (AreGiven input before file) limit text succeeds
 Says input before after (Explain file) text succeeds =
     ExplainsGiven (AreGiven input before file) text succeeds
 Says input before after (Solve code bounds) text succeeds = Solves code bounds text succeeds
@@ -51,6 +57,12 @@ Says input before after (Play file position limit) text succeeds =
     Plays (AreGiven input before file) limit position text succeeds
 Says input before after (PlayLines file limit) text succeeds =
     PlaysLines (AreFileOf before file) limit (AreLinesOf input) text succeeds
+Says input before after (Wins file position limit) text succeeds =
+    Asks (AreGiven input before file) limit question.Wins position text succeeds
+Says input before after (Value file position limit) text succeeds =
+    Asks (AreGiven input before file) limit question.Element position text succeeds
+Says input before after (Apart file first second limit) text succeeds =
+    AsksOfTwo (AreGiven input before file) limit first second text succeeds
 Says input before after (Compare first second limit) text succeeds =
     Compares (AreGiven input before first) (AreGiven (left_behind first input) before second) limit
     text succeeds

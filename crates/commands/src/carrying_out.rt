@@ -18,6 +18,7 @@ use explain_command::explain;
 use folders::Folder;
 use infinite_command::{infinite, play_infinite, play_infinite_lines, show_infinite};
 use play_command::{play, play_lines};
+use position_commands::{Question, apart, ask};
 use present_command::present;
 use requests::Plan;
 use series_command::series;
@@ -27,6 +28,7 @@ use solve_infinite_command::solve_infinite;
 use std::alloc::Global;
 use streams::Source;
 use tail_command::tail;
+use verify_command::verify;
 
 /// The form of relations that is asked for.
 fn form_of(basis: bool) -> Form
@@ -100,6 +102,7 @@ fn say<'a, F: Folder, S: Source>(
 {
     match plan {
         Plan::Check { file, limit } => check(alloc, file, limit, folder, input),
+        Plan::Verify { file, limit } => verify(alloc, file, limit, folder, input),
         Plan::Explain { file } => explain(alloc, file, folder, input),
         Plan::Show { file, limit } => show(alloc, file, limit, folder, input),
         Plan::Tail { file, limit } => tail(alloc, file, limit, folder, input),
@@ -109,6 +112,30 @@ fn say<'a, F: Folder, S: Source>(
             limit,
         } => play(alloc, file, position, limit, folder, input),
         Plan::PlayLines { file, limit } => play_lines(alloc, file, limit, folder, input),
+        Plan::Wins {
+            file,
+            position,
+            limit,
+        } => ask(alloc, file, position, Question::Wins, limit, folder, input),
+        Plan::Value {
+            file,
+            position,
+            limit,
+        } => ask(
+            alloc,
+            file,
+            position,
+            Question::Element,
+            limit,
+            folder,
+            input,
+        ),
+        Plan::Apart {
+            file,
+            first,
+            second,
+            limit,
+        } => apart(alloc, file, first, second, limit, folder, input),
         Plan::Compare {
             first,
             second,

@@ -80,7 +80,7 @@ fn said_of(alloc: Global, found: Result<Infinite, Vec<u8>>) -> Result<Said, Memo
 }
 
 /// What is said of bytes: of a text of a whole game, by its first word, or else of a certificate.
-fn said_of_bytes(alloc: Global, bytes: &[u8], limit: u32) -> Result<Said, Memory>
+pub fn said_of_bytes(alloc: Global, bytes: &[u8], limit: u32) -> Result<Said, Memory>
     ensures { IfOk result (λ s. TellsEither bytes.now s.text.items s.succeeds) }
 {
     if begins_whole(bytes) {

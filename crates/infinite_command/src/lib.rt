@@ -9,7 +9,7 @@ mod playing;
 mod showing;
 mod whole;
 
-pub use checking::{infinite, shown};
+pub use checking::{infinite, said_of_bytes, shown};
 pub use many::play_infinite_lines;
 pub use playing::play_infinite;
 pub use showing::show_infinite;

@@ -23,6 +23,7 @@ pub data CatalogueRequest : Type 0 where
 -- what is asked of the program
 pub data Request : Type 0 where
   Check : Option (List ℕ) → ℕ → Request
+  Verify : Option (List ℕ) → ℕ → Request
   Solve : List ℕ → SolveBounds → Request
   SolveMany : List (List ℕ) → SolveBounds → Request
   SolveLines : SolveBounds → Request
@@ -33,6 +34,9 @@ pub data Request : Type 0 where
   Describe : Option (List ℕ) → Output → Bool → ℕ → Request
   Play : Option (List ℕ) → List ℕ → ℕ → Request
   PlayLines : List ℕ → ℕ → Request
+  Wins : Option (List ℕ) → List ℕ → ℕ → Request
+  Value : Option (List ℕ) → List ℕ → ℕ → Request
+  Apart : Option (List ℕ) → List ℕ → List ℕ → ℕ → Request
   Compare : Option (List ℕ) → Option (List ℕ) → ℕ → Request
   Certify : Option (List ℕ) → ℕ → Request
   Explain : Option (List ℕ) → Request
@@ -58,6 +62,7 @@ catalogue_request_of task.Migrate = Migrate
 -- what a plan asks for
 abbrev pub request_of : Plan → Request
 request_of (plan.Check file limit) = Check (option_map (λ f. f.now) file) limit
+request_of (plan.Verify file limit) = Verify (option_map (λ f. f.now) file) limit
 request_of (plan.Solve code bounds) = Solve code.now bounds
 request_of (plan.SolveMany codes bounds) = SolveMany (map (λ c. c.now) codes.items) bounds
 request_of (plan.SolveLines bounds) = SolveLines bounds
@@ -70,6 +75,12 @@ request_of (plan.Describe file output basis limit) =
 request_of (plan.Play file position limit) =
     Play (option_map (λ f. f.now) file) position.now limit
 request_of (plan.PlayLines file limit) = PlayLines file.now limit
+request_of (plan.Wins file position limit) =
+    Wins (option_map (λ f. f.now) file) position.now limit
+request_of (plan.Value file position limit) =
+    Value (option_map (λ f. f.now) file) position.now limit
+request_of (plan.Apart file first second limit) =
+    Apart (option_map (λ f. f.now) file) first.now second.now limit
 request_of (plan.Compare first second limit) =
     Compare (option_map (λ f. f.now) first) (option_map (λ f. f.now) second) limit
 request_of (plan.Certify file limit) = Certify (option_map (λ f. f.now) file) limit

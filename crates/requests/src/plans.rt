@@ -52,6 +52,12 @@ pub enum Plan<'a> {
         file: Option<&'a str>,
         limit: u32,
     },
+    /// Judge the text in the file, or on standard input where no file is named, by its first word: a
+    /// certificate, one of an infinite quotient or one of a whole game.
+    Verify {
+        file: Option<&'a str>,
+        limit: u32,
+    },
     /// Look for a quotient of the code.
     Solve {
         code: &'a str,
@@ -108,6 +114,28 @@ pub enum Plan<'a> {
     /// under the limit.
     PlayLines {
         file: &'a str,
+        limit: u32,
+    },
+    /// Print each winning move in a position by the quotient that the file certifies under the limit,
+    /// or standard input where no file is named.
+    Wins {
+        file: Option<&'a str>,
+        position: &'a str,
+        limit: u32,
+    },
+    /// Print the element of a position in the quotient that the file certifies under the limit, or
+    /// standard input where no file is named.
+    Value {
+        file: Option<&'a str>,
+        position: &'a str,
+        limit: u32,
+    },
+    /// Tell two positions apart by the quotient that the file certifies under the limit, or standard
+    /// input where no file is named.
+    Apart {
+        file: Option<&'a str>,
+        first: &'a str,
+        second: &'a str,
         limit: u32,
     },
     /// Compare the quotients that the two files certify under the limit, where one that isn't named is

@@ -35,9 +35,10 @@ unnamed : (name : Text) → (name ≡ codes "check" → ⊥) → (name ≡ codes
     → (name ≡ codes "play" → ⊥) → (name ≡ codes "compare" → ⊥) → (name ≡ codes "certify" → ⊥)
     → (name ≡ codes "explain" → ⊥) → (name ≡ codes "present" → ⊥) → (name ≡ codes "catalogue" → ⊥)
     → (name ≡ codes "desk" → ⊥) → (name ≡ codes "infinite" → ⊥) → (name ≡ codes "tail" → ⊥)
+    → (name ≡ codes "verify" → ⊥) → (name ≡ codes "value" → ⊥) → (name ≡ codes "apart" → ⊥)
     → command_named name ≡ None
 unnamed name check solve series show describe play compare certify explain present catalogue desk
-    infinite tail =
+    infinite tail verify value apart =
     passed _ _ _ (other name (codes "check") check)
     (passed _ _ _ (other name (codes "solve") solve)
     (passed _ _ _ (other name (codes "series") series)
@@ -51,7 +52,10 @@ unnamed name check solve series show describe play compare certify explain prese
     (passed _ _ _ (other name (codes "catalogue") catalogue)
     (passed _ _ _ (other name (codes "desk") desk)
     (passed _ _ _ (other name (codes "infinite") infinite)
-    (passed _ _ _ (other name (codes "tail") tail) refl)))))))))))))
+    (passed _ _ _ (other name (codes "tail") tail)
+    (passed _ _ _ (other name (codes "verify") verify)
+    (passed _ _ _ (other name (codes "value") value)
+    (passed _ _ _ (other name (codes "apart") apart) refl))))))))))))))))
 
 -- what the command of the name answers
 module _ (name : Text) (rows : List Row) (command : Asking) (is : command_named name ≡ Some command)
@@ -101,7 +105,8 @@ returns-in_default-clause-nothing c = λ _.
     c.in_default.not-series c.in_default.not-show c.in_default.not-describe
     c.in_default.not-play c.in_default.not-compare c.in_default.not-certify
     c.in_default.not-explain c.in_default.not-present c.in_default.not-catalogue
-    c.in_default.not-desk c.in_default.not-infinite c.in_default.not-tail)
+    c.in_default.not-desk c.in_default.not-infinite c.in_default.not-tail
+    c.in_default.not-verify c.in_default.not-value c.in_default.not-apart)
 
 pub returns-in_default-clause-fault : goal.returns-in_default-clause-fault
 returns-in_default-clause-fault c = λ _.
@@ -110,4 +115,5 @@ returns-in_default-clause-fault c = λ _.
     c.in_default.not-series c.in_default.not-show c.in_default.not-describe
     c.in_default.not-play c.in_default.not-compare c.in_default.not-certify
     c.in_default.not-explain c.in_default.not-present c.in_default.not-catalogue
-    c.in_default.not-desk c.in_default.not-infinite c.in_default.not-tail)) refl
+    c.in_default.not-desk c.in_default.not-infinite c.in_default.not-tail
+    c.in_default.not-verify c.in_default.not-value c.in_default.not-apart)) refl

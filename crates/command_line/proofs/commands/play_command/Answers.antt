@@ -7,4 +7,5 @@ returns c =
     c.needed.ensures.local in
     let two = c.with_arg-made-2.ensures _ _ _ one c.needed-2.ensures.rule
     c.needed-2.ensures.local in
-    c.with_arg.ensures _ _ _ two c.limit.ensures.rule c.limit.ensures.local
+    let three = c.with_arg-made-3.ensures _ _ _ two c.flag.ensures.rule c.flag.ensures.local in
+    c.with_arg.ensures _ _ _ three c.limit.ensures.rule c.limit.ensures.local

@@ -1,5 +1,5 @@
 use Rattle.std.proofs.Common.{refl}
-use Rattle.command_line.specs.Program.{catalogue, certify, check, compare, describe, desk, explain, infinite, misere, play, present, series, show, solve, tail}
+use Rattle.command_line.specs.Program.{apart, catalogue, certify, check, compare, describe, desk, explain, infinite, misere, play, present, series, show, solve, tail, value, verify}
 use Rattle.command_line.proofs.commands.program_command.Goals as goal
 
 pub returns : goal.returns
@@ -18,4 +18,7 @@ returns c =
     let eleven = c.with-program-11.ensures _ catalogue ten c.catalogue_command.ensures refl in
     let twelve = c.with-program-12.ensures _ desk eleven c.desk_command.ensures refl in
     let thirteen = c.with-program-13.ensures _ infinite twelve c.infinite_command.ensures refl in
-    c.with.ensures _ tail thirteen c.tail_command.ensures refl
+    let fourteen = c.with-program-14.ensures _ tail thirteen c.tail_command.ensures refl in
+    let fifteen = c.with-program-15.ensures _ verify fourteen c.verify_command.ensures refl in
+    let sixteen = c.with-program-16.ensures _ value fifteen c.value_command.ensures refl in
+    c.with.ensures _ apart sixteen c.apart_command.ensures refl

@@ -1,0 +1,12 @@
+-- What is said where the certificate speaks of the positions.
+use Rattle.std.proofs.Common.{◌≡◌, ℕ, Bool, true, false, List, Result, Ok, Err, IfOk, inl, inr}
+use Rattle.misere_theory.specs.Certificates.{Certificate}
+use Rattle.command_results.specs.declared.said.Said.{Said}
+use Rattle.position_commands.specs.Said.{SaysBy}
+
+pub well_said : {E : Type 0} (Speaks : Certificate → Type 0) (Tells : Certificate → List ℕ → Type 0)
+    (c : Certificate) (r : Result Said E) → Speaks c → IfOk r (λ s. Tells c s.text.items)
+    → IfOk r (λ s. s.succeeds ≡ true)
+    → IfOk r (λ s. SaysBy Speaks (λ d t b. Tells d t × (b ≡ true)) c s.text.items s.succeeds)
+well_said Speaks Tells c (Ok s) speaks tells well = inl (speaks, (tells, well))
+well_said Speaks Tells c (Err e) speaks tells well = tt

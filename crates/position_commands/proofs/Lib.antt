@@ -1,0 +1,5 @@
+mod Given
+mod Joined
+mod Separated
+mod Shortest
+mod Won

@@ -1,0 +1,5 @@
+pub mod Apart
+pub mod Lines
+pub mod Said
+pub mod Values
+pub mod Wins

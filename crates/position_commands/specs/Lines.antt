@@ -1,0 +1,26 @@
+-- What is printed of positions. This project's own.
+use Rattle.std.specs.Prelude.{ℕ, List, ◌++◌, codes, decimal}
+use Rattle.positions.specs.Text.{position_text}
+use Rattle.positions.specs.declared.outcome.Outcome.{Outcome}
+use Rattle.positions.specs.declared.outcome.Outcome.TheVariants.{P, N}
+
+abbrev pub outcome_letter : Outcome → List ℕ
+outcome_letter P = codes "P"
+outcome_letter N = codes "N"
+
+-- an element, its outcome, and a position
+abbrev pub value_line : ℕ → Outcome → List ℕ → List ℕ
+value_line e outcome sizes = codes "element " ++ decimal e ++ codes " " ++ outcome_letter outcome
+    ++ codes " " ++ position_text sizes ++ codes "\n"
+
+-- a position, and the outcomes of the two sums with it
+abbrev pub apart_line : List ℕ → Outcome → Outcome → List ℕ
+apart_line sizes first second = codes "apart " ++ position_text sizes ++ codes " "
+    ++ outcome_letter first ++ codes " " ++ outcome_letter second ++ codes "\n"
+
+abbrev pub alike_line : List ℕ
+alike_line = codes "indistinguishable\n"
+
+-- the line if there may be too many options of a heap
+abbrev pub many_line : List ℕ
+many_line = codes "more than 1000000 options of a heap\n"

@@ -1,0 +1,61 @@
+//! The lines of positions.
+ghost use Rattle.std.specs.Prelude.{◌≡◌, IfOk};
+ghost use Rattle.std.specs.String.{string_bytes};
+ghost use Rattle.positions.specs.Text.{position_text};
+ghost use Rattle.position_commands.specs.Lines.{alike_line, apart_line, many_line, outcome_letter, value_line};
+
+use allocation::Memory;
+use player::Outcome;
+use positions::Position;
+use std::alloc::{AllocError, Global};
+
+fn letter(outcome: Outcome) -> &'static str
+    ensures { result.now ≡ outcome_letter outcome }
+{
+    match outcome {
+        Outcome::P => "P",
+        Outcome::N => "N",
+    }
+}
+
+/// The line of an element, its outcome and a position of this value.
+pub(crate) fn value_text(
+    alloc: Global,
+    element: u16,
+    outcome: Outcome,
+    spelled: &Position,
+) -> Result<String, Memory>
+    ensures { IfOk result (λ t. string_bytes t ≡ value_line element outcome spelled.now) }
+{
+    let (letter, sizes) = (letter(outcome), spelled.text()?);
+    let text = format!(in alloc; "element {element} {letter} {sizes}\n")?;
+    Ok(text)
+}
+
+/// The line of a position that tells two apart, and the outcomes of their sums with it.
+pub(crate) fn apart_text(
+    alloc: Global,
+    third: &Position,
+    first: Outcome,
+    second: Outcome,
+) -> Result<String, Memory>
+    ensures { IfOk result (λ t. string_bytes t ≡ apart_line third.now first second) }
+{
+    let (sizes, one, other) = (third.text()?, letter(first), letter(second));
+    let text = format!(in alloc; "apart {sizes} {one} {other}\n")?;
+    Ok(text)
+}
+
+/// That two positions are indistinguishable.
+pub(crate) fn alike_text(alloc: Global) -> Result<String, AllocError>
+    ensures { IfOk result (λ t. string_bytes t ≡ alike_line) }
+{
+    String::from_str(alloc, "indistinguishable\n")
+}
+
+/// That a heap may have too many options to look at.
+pub(crate) fn many_text(alloc: Global) -> Result<String, AllocError>
+    ensures { IfOk result (λ t. string_bytes t ≡ many_line) }
+{
+    String::from_str(alloc, "more than 1000000 options of a heap\n")
+}

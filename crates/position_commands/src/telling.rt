@@ -1,0 +1,151 @@
+//! `apart`: what tells two positions apart.
+ghost use Rattle.std.specs.Prelude.{◌≡◌, ◌↔◌, ◌<◌, ℕ, List, false, true, IfOk, IfErr, IsErrOf, is_none, is_some, option_map};
+ghost use Rattle.std.specs.Option.{MatchOption};
+ghost use Rattle.misere_theory.specs.Certificates.{LeastApart, TellsApart, claim_of};
+ghost use Rattle.misere_theory.specs.Quotients.{value};
+ghost use Rattle.check_command.specs.Checks.{AreGiven, failed};
+ghost use Rattle.player.specs.Answers.{SpeaksOf};
+ghost use Rattle.positions.specs.Outcomes.{HasOutcome};
+ghost use Rattle.position_commands.specs.Apart.{SaysApart};
+ghost use Rattle.position_commands.specs.Said.{AsksOfTwo, IsApartCause, SaysBy, SaysFound};
+
+use crate::lines::{alike_text, apart_text};
+use allocation::Memory;
+use answers::Certified;
+use check_command::certified;
+use command_results::{Said, Stop};
+use folders::Folder;
+use play_command::{beyond, position_of};
+use player::{Outcome, fits, value};
+use positions::Position;
+use std::alloc::Global;
+use streams::Source;
+
+/// The least element that takes exactly one of the two into the portion, if there is one.
+fn separating(certified: &Certified, x: u16, y: u16) -> Option<u16>
+    requires x_in { x < certified.now.order }
+    requires y_in { y < certified.now.order }
+    ensures { MatchOption result
+        ((z : ℕ) → z < certified.now.order → TellsApart (claim_of certified.now) (x, y) z → ⊥)
+        (λ z. LeastApart (claim_of certified.now) (x, y) z) }
+{
+    for z in 0..certified.cert().order() {
+        let one = certified.holds(certified.times(x, z));
+        let other = certified.holds(certified.times(y, z));
+        if one != other {
+            return Some(z);
+        }
+    }
+    None
+}
+
+/// The outcome of each position of this value.
+fn outcome_at(certified: &Certified, element: u16) -> Outcome
+    requires { element < certified.now.order }
+    ensures by { (result ≡ Outcome.P) ↔ ((claim_of certified.now).portion element ≡ true) }
+    ensures outcome { (X : List ℕ) → SpeaksOf certified.now X
+        → value (claim_of certified.now) X ≡ element → HasOutcome certified.now.code X result }
+{
+    let _ = certified.cert();
+    if certified.holds(element) {
+        Outcome::P
+    } else {
+        Outcome::N
+    }
+}
+
+/// What is said of the two positions, of which the certificate speaks.
+fn apart_said(
+    alloc: Global,
+    certified: &Certified,
+    first: &Position,
+    second: &Position,
+) -> Result<Said, Memory>
+    requires first { SpeaksOf certified.now first.now }
+    requires second { SpeaksOf certified.now second.now }
+    ensures told { IfOk result
+        (λ s. SaysApart certified.now first.now second.now s.text.items) }
+    ensures succeeds { IfOk result (λ s. s.succeeds ≡ true) }
+{
+    let _ = certified.cert();
+    let (x, y) = (value(certified, first), value(certified, second));
+    let Some(z) = separating(certified, x, y) else {
+        return Ok(Said::done(alike_text(alloc)?));
+    };
+    let third = certified.position_of(alloc, z)?;
+    let one = outcome_at(certified, certified.times(x, z));
+    let other = outcome_at(certified, certified.times(y, z));
+    let text = apart_text(alloc, &third, one, other)?;
+    Ok(Said::done(text))
+}
+
+/// What the certificate says of the two positions.
+fn said_by(
+    alloc: Global,
+    certified: &Certified,
+    first: &Position,
+    second: &Position,
+) -> Result<Said, Memory>
+    ensures { IfOk result
+        (λ s. SaysBy (λ c. SpeaksOf c first.now × SpeaksOf c second.now)
+        (λ c t b. SaysApart c first.now second.now t × (b ≡ true)) certified.now s.text.items
+        s.succeeds) }
+{
+    if fits(certified, first) && fits(certified, second) {
+        return apart_said(alloc, certified, first, second);
+    }
+    let said = beyond(alloc)?;
+    Ok(said)
+}
+
+/// What is said of the two positions by what was found.
+fn said_in(
+    alloc: Global,
+    quotient: Result<Certified, Vec<u8>>,
+    first: &Position,
+    second: &Position,
+) -> Result<Said, Memory>
+    ensures { IfOk result
+        (λ s. SaysFound (λ c. SpeaksOf c first.now × SpeaksOf c second.now)
+        (λ c t b. SaysApart c first.now second.now t × (b ≡ true)) quotient s.text.items
+        s.succeeds) }
+{
+    match quotient {
+        Ok(certified) => said_by(alloc, &certified, first, second),
+        Err(no) => Ok(Said::no(no)),
+    }
+}
+
+/// Says whether two positions are indistinguishable by the quotient that the file, or standard input where
+/// no file is named, certifies under the limit. If they aren't, it names a third position, of as few heaps
+/// as can be, beside which their outcomes differ. Or it says that a partial quotient doesn't speak of one
+/// of them, or why there is none. The positions are read first.
+pub fn apart<'a, F: Folder, S: Source>(
+    alloc: Global,
+    file: Option<&'a str>,
+    first: &str,
+    second: &str,
+    limit: u32,
+    folder: &mut F,
+    input: &mut S,
+) -> Result<Said, Stop<'a>>
+    ensures asks { let named = option_map (λ f. f.now) file.entry in
+        IfOk result (λ s. AsksOfTwo (AreGiven (S.left input.old) (F.files folder.old) named) limit
+        first.now second.now s.text.items s.succeeds) }
+    ensures kept { F.files folder.new ≡ F.files folder.old }
+    ensures usage { IsErrOf result Stop.NotAPosition → folder.new ≡ folder.old }
+    ensures stops { IfErr result (IsApartCause (option_map (λ f. f.now) file.entry) first.now
+        second.now (failed (S.failures input.old) (F.failed_reads folder.old))
+        (failed (S.failures input.new) (F.failed_reads folder.new))) }
+    ensures input { is_none (option_map (λ f. f.now) file.entry) ≡ false → input.new ≡ input.old }
+    ensures folder { is_some (option_map (λ f. f.now) file.entry) ≡ false
+        → folder.new ≡ folder.old }
+{
+    let first = position_of(alloc, first)?;
+    let second = position_of(alloc, second)?;
+    let quotient = certified(alloc, file, limit, folder, input)?;
+    match said_in(alloc, quotient, &first, &second) {
+        Ok(said) => Ok(said),
+        Err(Memory) => Err(Stop::Memory),
+    }
+}
