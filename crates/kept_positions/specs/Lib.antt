@@ -1,3 +1,4 @@
 pub mod Kept
 pub mod Telling
 pub mod Presented
+pub mod Cells

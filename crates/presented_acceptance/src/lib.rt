@@ -1,0 +1,6 @@
+//! Tests of the crates of presentations as certificates, by their public names alone. There is nothing else here: a
+//! library's proof then waits for no test.
+#![tactic(auto)]
+
+#[cfg(test)]
+mod kept_checker_tests;
