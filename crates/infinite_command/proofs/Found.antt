@@ -1,23 +1,11 @@
--- What is said in a position, from what was found.
-use Rattle.std.proofs.Common.{◌≡◌, ◌≤◌, length, sym, subst, ℕ, Bool, true, false, List, Result, Ok, Err, Vec, inl, inr}
-use Rattle.positions.specs.Text.{IsTextOf}
+-- What is said in many positions, from what was found.
+use Rattle.std.proofs.Common.{◌≡◌, ◌≤◌, length, sym, subst, ℕ, Bool, false, List, Result, Ok, Err, Vec}
 use Rattle.command_results.specs.Lines.{AnswersLines}
 use Rattle.command_results.specs.declared.lines.TheConstants.{LARGEST_INPUT}
 use Rattle.infinite_answers.specs.Kept.{Kept}
 use Rattle.infinite_command.specs.Checks.{ChecksInfinite, FindsInfinite}
 use Rattle.infinite_command.specs.Many.{AnswersLine, PlaysInfiniteLines}
 use Rattle.infinite_command.specs.Many.PlaysInfiniteLines.{Quotient, NoQuotient}
-use Rattle.infinite_command.specs.Plays.{PlaysInfinite, PlaysFound}
-
-pub plays_found : {A : Type 0} (Are : List ℕ → Type 0) (position : List ℕ)
-    (q : Result Kept (Vec ℕ A)) (X text : List ℕ) (succeeds : Bool)
-    → FindsInfinite Are q → IsTextOf position X → PlaysFound q X text succeeds
-    → PlaysInfinite Are position text succeeds
-plays_found Are position (Ok k) X text true f read h = (k, f, (X, read, h.0, h.1))
-plays_found Are position (Ok k) X text false f read h = inr (k, f, (X, read, h))
-plays_found Are position (Err said) X text succeeds f read h =
-    subst (λ (b : Bool). PlaysInfinite Are position text b) (sym h.1)
-    (inl (subst (λ (t : List ℕ). ChecksInfinite Are t false) (sym h.0) f))
 
 pub plays_quotient : {A : Type 0} (Are AreLines : List ℕ → Type 0)
     (q : Result Kept (Vec ℕ A)) (k : Kept) (lines read text : List ℕ) (succeeds : Bool)

@@ -10,13 +10,13 @@ use Rattle.infinite_answers.specs.Answers.{IsTrueOf, Why, Text, Law, Order, Outc
 use Rattle.infinite_answers.specs.Kept.{Kept}
 use Rattle.infinite_command.specs.Checks.{ChecksEither, FindsInfinite, JudgesInfinite, TellsFound}
 use Rattle.infinite_command.specs.Shown.{ShowsFound, ShowsInfinite}
-use Rattle.infinite_command.specs.Told.{BeginsWhole, IsRefusalText, Tells, TellsEither, TellsWhole}
+use Rattle.infinite_command.specs.Told.{BeginsWhole, IsRefusalText, Tells, TellsEither}
 use Rattle.infinite_descriptions.specs.Head.{infinite_line}
 use Rattle.requests.specs.declared.plans.Layout.{Layout}
 use Rattle.infinite_command.specs.Told.Tells.{Yes, No}
 
 -- long bytes spell nothing
-no_long : (bytes : List ℕ) (c : Said) → 4194304 < length bytes → Spells bytes c → ⊥
+pub no_long : (bytes : List ℕ) (c : Said) → 4194304 < length bytes → Spells bytes c → ⊥
 no_long bytes c long spells = let short : length bytes ≤ 4194304 = spells.short in
     omega (arith, long, short)
 
@@ -35,7 +35,7 @@ true_of_longer v bytes text Idle long more h told = absurd (no_long v h.0 long h
 true_of_longer v bytes text Undecided long more h told = absurd (no_long v h.0 long h.1)
 true_of_longer v bytes text Ray long more h told = absurd (no_long v h.0 long h.1)
 
-tells_longer : (v bytes text : List ℕ) (accepted : Bool) → 4194304 < length v
+pub tells_longer : (v bytes text : List ℕ) (accepted : Bool) → 4194304 < length v
     → length v ≤ length bytes → Tells v text accepted → Tells bytes text accepted
 tells_longer v bytes text accepted long more (Yes c spells shown is good) =
     absurd (no_long v c long spells)
@@ -43,7 +43,7 @@ tells_longer v bytes text accepted long more (No why holds told bad) =
     No why (true_of_longer v bytes text why long more holds told) told bad
 
 -- long bytes are no text of a whole game
-no_long_whole : (bytes : List ℕ) → 4194304 < length bytes → BeginsWhole bytes → ⊥
+pub no_long_whole : (bytes : List ℕ) → 4194304 < length bytes → BeginsWhole bytes → ⊥
 no_long_whole bytes long begins = let short = begins.0 in omega (arith, long, short)
 
 either_longer : (v bytes text : List ℕ) (accepted : Bool) → 4194304 < length v

@@ -1,3 +1,4 @@
 pub mod Given
 mod Found
+mod Played
 mod Answered

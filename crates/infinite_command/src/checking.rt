@@ -20,7 +20,11 @@ use std::alloc::Global;
 use streams::Source;
 
 /// Checks the bytes under the limit: their quotient, or else the text of a no.
-fn judged(alloc: Global, bytes: &[u8], limit: u32) -> Result<Result<Infinite, Vec<u8>>, Memory>
+pub(crate) fn judged(
+    alloc: Global,
+    bytes: &[u8],
+    limit: u32,
+) -> Result<Result<Infinite, Vec<u8>>, Memory>
     ensures { IfOk result (JudgesInfinite bytes.now) }
 {
     let refusal = match check_infinite(alloc, bytes, limit) {

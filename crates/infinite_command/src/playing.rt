@@ -2,10 +2,13 @@
 ghost use Rattle.std.specs.Prelude.{◌≡◌, true, false, IfOk, IfErr, IsErrOf, is_none, is_some, option_map};
 ghost use Rattle.check_command.specs.Checks.{AreGiven, failed};
 ghost use Rattle.infinite_player.specs.Plays.{SpeaksOf};
-ghost use Rattle.infinite_command.specs.Plays.{AnswersIn, PlaysFound, PlaysIn, PlaysInfinite};
+ghost use Rattle.infinite_command.specs.Plays.{AnswersIn, PlaysEither, PlaysIn, PlaysInfinite};
 ghost use Rattle.play_command.specs.Plays.{IsPlayCause};
 
-use crate::checking::shown;
+use crate::checking::judged;
+use crate::whole::{begins_whole, whole_played};
+use allocation::Memory;
+use check_command::given_bytes;
 use command_results::{Said, Stop};
 use folders::Folder;
 use infinite_answers::Infinite;
@@ -40,24 +43,24 @@ pub(crate) fn played(
     }
 }
 
-/// What is said in the position by what was found.
-fn said_in(
-    alloc: Global,
-    found: Result<Infinite, Vec<u8>>,
-    position: &Position,
-) -> Result<Said, AllocError>
-    ensures { IfOk result (λ s. PlaysFound found position.now s.text.items s.succeeds) }
+/// What is said in the position by bytes: of a whole game, by their first word, or else of a certificate
+/// with tracks.
+fn played_by(alloc: Global, bytes: &[u8], position: &Position, limit: u32) -> Result<Said, Memory>
+    ensures { IfOk result (λ s. PlaysEither bytes.now position.now s.text.items s.succeeds) }
 {
-    match found {
-        Ok(shown) => played(alloc, &shown, position),
+    if begins_whole(bytes) {
+        return whole_played(alloc, bytes, position);
+    }
+    match judged(alloc, bytes, limit)? {
+        Ok(shown) => Ok(played(alloc, &shown, position)?),
         Err(no) => Ok(Said::no(no)),
     }
 }
 
 /// Answers in the position by the infinite quotient that the file, or standard input where no file is
 /// named, shows under the limit: with the first winning move, that each move loses, or that there is
-/// none; or says that the certificate doesn't speak of the position, or why there is no quotient. The
-/// position is read first.
+/// none; or says that the certificate doesn't speak of the position, or why there is no quotient. A text
+/// of a whole game speaks of every position. The position is read first.
 pub fn play_infinite<'a, F: Folder, S: Source>(
     alloc: Global,
     file: Option<&'a str>,
@@ -79,9 +82,9 @@ pub fn play_infinite<'a, F: Folder, S: Source>(
         → folder.new ≡ folder.old }
 {
     let position = position_of(alloc, position)?;
-    let found = shown(alloc, file, limit, folder, input)?;
-    match said_in(alloc, found, &position) {
+    let bytes = given_bytes(alloc, file, folder, input)?;
+    match played_by(alloc, &bytes, &position, limit) {
         Ok(said) => Ok(said),
-        Err(_) => Err(Stop::Memory),
+        Err(Memory) => Err(Stop::Memory),
     }
 }

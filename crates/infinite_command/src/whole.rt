@@ -1,12 +1,16 @@
 //! What is said of a text of a whole game.
 ghost use Rattle.std.specs.Prelude.{◌≡◌, ◌↔◌, ◌++◌, ℕ, List, codes, IfOk, IsTrue};
 ghost use Rattle.std.specs.String.{string_bytes};
+ghost use Rattle.infinite_command.specs.Plays.{PlaysWhole};
 ghost use Rattle.infinite_command.specs.Told.{BeginsWhole, TellsWhole, whole_line};
 
 use crate::lines::refusal_text;
 use allocation::Memory;
 use certificate_text::LONGEST_TEXT;
 use command_results::Said;
+use infinite_player::whole_answer;
+use play_command::answer_text;
+use positions::Position;
 use std::alloc::Global;
 use whole_checker::{WholeGame, check_whole};
 
@@ -40,6 +44,22 @@ pub(crate) fn whole_said(alloc: Global, bytes: &[u8]) -> Result<Said, Memory>
     match check_whole(alloc, bytes) {
         Ok(game) => {
             let text = whole_line(alloc, &game)?;
+            Ok(Said::done(text))
+        }
+        Err(refusal) => {
+            let text = refusal_text(alloc, refusal)?;
+            Ok(Said::no(text.into_bytes()))
+        }
+    }
+}
+
+/// What is said in the position by bytes that do: the answer, or the text of a no.
+pub(crate) fn whole_played(alloc: Global, bytes: &[u8], position: &Position) -> Result<Said, Memory>
+    ensures { IfOk result (λ s. PlaysWhole bytes.now position.now s.text.items s.succeeds) }
+{
+    match check_whole(alloc, bytes) {
+        Ok(game) => {
+            let text = answer_text(alloc, whole_answer(&game, position))?;
             Ok(Said::done(text))
         }
         Err(refusal) => {

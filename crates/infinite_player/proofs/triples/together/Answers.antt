@@ -1,4 +1,4 @@
-use Rattle.std.proofs.Common.{rules, arith}
+use Rattle.std.proofs.Common.{rules}
 use Rattle.infinite_player.proofs.Stopped.{together_is}
 use Rattle.infinite_player.proofs.triples.together.Goals as goal
 

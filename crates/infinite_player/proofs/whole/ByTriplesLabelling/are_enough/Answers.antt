@@ -1,4 +1,4 @@
-use Rattle.std.proofs.Common.{◌≡◌, ◌+◌, ◌-◌, subst, arith}
+use Rattle.std.proofs.Common.{◌+◌, ◌-◌, subst, arith}
 use Rattle.misere_theory.specs.Pairs.{IsSmallSplit}
 use Rattle.misere_theory.proofs.Sums.{heaps_kept}
 use Rattle.infinite_player.proofs.whole.ByTriplesLabelling.are_enough.Goals as goal
