@@ -14,20 +14,29 @@ TWO = [[0, 1], [1, 0]]
 CHAIN = [[0, 1, 2], [1, 1, 2], [2, 2, 2]]
 
 
+def certified_again(sample: misere.Quotient, seed: str) -> misere.Quotient:
+    """What is certified of a quotient's table, in other numbers."""
+    names = [*range(sample.order)]
+    random.Random(seed).shuffle(names)
+    places = sorted(range(sample.order), key=names.__getitem__)
+    table = [[names[sample.table[x][y]] for y in places] for x in places]
+    last = sample.last_heap or sample.start + 3 * sample.period - 1
+    heaps = [names[sample.phi(heap)] for heap in range(1, last + 1)]
+    portion = {names[it] for it in sample.portion}
+    period = 2 * sample.period if sample.last_heap is None else 0
+    return misere.certify(sample.code, table, heaps, portion, period)
+
+
 class Own(unittest.TestCase):
     def test_a_sample_in_another_numbering_is_the_sample(self) -> None:
         for path in sorted(samples.glob("*.mqc")):
             with self.subTest(path.name):
                 sample = quotient(path.stem)
-                names = [*range(sample.order)]
-                random.Random(path.name).shuffle(names)
-                places = sorted(range(sample.order), key=names.__getitem__)
-                table = [[names[sample.table[x][y]] for y in places] for x in places]
-                last = sample.last_heap or sample.start + 3 * sample.period - 1
-                heaps = [names[sample.phi(heap)] for heap in range(1, last + 1)]
-                portion = {names[it] for it in sample.portion}
-                period = 2 * sample.period if sample.last_heap is None else 0
-                self.assertEqual(misere.certify(sample.code, table, heaps, portion, period), sample)
+                self.assertEqual(certified_again(sample, path.name), sample)
+
+    def test_a_quotient_of_864_elements_in_another_numbering_is_that_quotient(self) -> None:
+        sample = misere.Catalogue(top / "atlas/parts.json")["0.04", 44]
+        self.assertEqual((sample.order, certified_again(sample, "0.04")), (864, sample))
 
     def test_what_is_refused_of_a_table_has_its_own_numbers(self) -> None:
         rows: list[tuple[str, list[list[int]], list[int], list[int], str]] = [
