@@ -432,6 +432,19 @@ def explained_texts(program: str, _: pathlib.Path, runs: Runs) -> Iterator[str]:
             yield f"prints {run.printed!r}, not {begins!r}"
 
 
+def damaged_tables() -> list[tuple[list[str], int]]:
+    """A table with each line damaged in three ways, and that line's number."""
+    lines = texts_of_kinds()[-1]
+    return [(text, at + 1) for at in range(len(lines)) for text, _ in damaged(lines, at)]
+
+
+def lines_of_tables(program: str, _: pathlib.Path, runs: Runs) -> Iterator[str]:
+    """`certify` names the line at which a text is no table."""
+    for lines, line in damaged_tables():
+        run = runs.run([program, "certify"], "".join(f"{it}\n" for it in lines).encode())
+        yield from differs(run, 1, f"no 1 Text line {line}\n".encode())
+
+
 def made_rows() -> Iterator[Made]:
     """All of them, those that take longest first."""
     yield Made("large refusals", 10, large_refusals)
@@ -451,4 +464,5 @@ def made_rows() -> Iterator[Made]:
     yield Made("bytes that are no text", 3, bytes_that_are_no_text)
     yield Made("explained words", len(EXPLAINED), explained_words)
     yield Made("explained texts", len(damages()), explained_texts)
+    yield Made("lines of tables", len(damaged_tables()), lines_of_tables)
     yield Made("failing devices", len(READING) + len(WRITING) + len(OF_FILES) + 1, failing_devices)

@@ -118,6 +118,6 @@ pub fn read_table<A: Allocator + Copy>(alloc: A, bytes: &[u8]) -> Result<OwnTabl
     match read_table_from(alloc, &mut reader) {
         Ok(table) => Ok(table),
         Err(TextFault::Memory) => Err(TableFault::Memory),
-        Err(TextFault::Text) => Err(TableFault::Text(line_with(bytes, reader.left()))),
+        Err(TextFault::Text) => Err(TableFault::Text(line_with(bytes, reader.stop().left))),
     }
 }
