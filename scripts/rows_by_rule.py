@@ -441,7 +441,7 @@ def damaged_tables() -> list[tuple[list[str], int]]:
 def lines_of_tables(program: str, _: pathlib.Path, runs: Runs) -> Iterator[str]:
     """`certify` names the line at which a text is no table."""
     for lines, line in damaged_tables():
-        run = runs.run([program, "certify"], "".join(f"{it}\n" for it in lines).encode())
+        run = runs.run([program, "certify", "-"], "".join(f"{it}\n" for it in lines).encode())
         yield from differs(run, 1, f"no 1 Text line {line}\n".encode())
 
 
