@@ -11,7 +11,7 @@ POSITIONS = {"1": False, "2": True, "3 3": True, "9": False, "15": True, "15 3 3
 def drive(it, program, steps):
     it.go("#game=0.26")
     theorem = it.said("#theorem", "is known")
-    steps.expect("its outcomes stand first on a game's page", "exactly if" in theorem, theorem[:80])
+    steps.expect("its outcomes stand first on a game's page", "if and only if" in theorem, theorem[:80])
     told = it.said("#judged", "Checked here", "Not checked", "Refused")
     steps.expect("the text is judged there", not told.startswith("Refused"), told)
     it.go(f"#game={NAME}")
