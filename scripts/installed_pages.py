@@ -15,7 +15,8 @@ HEADING = re.compile(r"^#+ (.+)$", re.M)
 
 def installed(text: str, source: str, places: Mapping[str, str], data: str) -> str:
     """The text of a page of the repository as it is installed. `places` has the place of each file and folder that is,
-    by where it stands in the repository; `data` is the folder of certificates, the atlas and scripts."""
+    by where it stands in the repository, or a heading on a page; `data` is the folder of certificates, the atlas and
+    scripts."""
 
     def linked(it: re.Match[str]) -> str:
         image, name, target = it[1], it[2], it[3]
@@ -26,7 +27,7 @@ def installed(text: str, source: str, places: Mapping[str, str], data: str) -> s
         if place is None:
             return name
         leads = posixpath.relpath(place, posixpath.dirname(places[source]))
-        return f"{image}[{name}]({leads}{mark}{heading})"
+        return f"{image}[{name}]({leads})" if "#" in place else f"{image}[{name}]({leads}{mark}{heading})"
 
     text = LINK.sub(linked, text).replace("./misere ", "misere ")
     text = re.sub(r'src="([^":]+)"', lambda it: f'src="{leading(it[1], source, places)}"', text)
