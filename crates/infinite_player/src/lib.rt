@@ -15,4 +15,4 @@ pub use laws::plays_stay_inside;
 pub use play::{answer, answer_at, fits, outcome, outcome_at, speaks_of};
 pub use player::Answer;
 pub use positions::Outcome;
-pub use whole::{whole_answer, whole_outcome};
+pub use whole::{whole_answer, whole_answer_at, whole_outcome, whole_outcome_at};

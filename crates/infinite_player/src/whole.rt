@@ -1,5 +1,7 @@
 //! Playing whole games in which one heap may rule all others.
+ghost use Rattle.std.specs.List.Sorted.{IsNonDecreasing};
 ghost use Rattle.std.specs.Prelude.{◌-◌};
+ghost use Rattle.misere_theory.specs.Games.{IsHeap, IsPosition};
 ghost use Rattle.positions.specs.Outcomes.{HasOutcome};
 ghost use Rattle.player.specs.Answers.{IsTriedAnswer};
 
@@ -58,6 +60,15 @@ impl<A: Allocator> Labelling for ByTriples<'_, A> {
     }
 }
 
+/// Who wins from the position of these heaps, in any order, under misère play, whatever they are. It takes
+/// no memory.
+pub fn whole_outcome_at<A: Allocator>(game: &WholeGame<A>, heaps: &[u64]) -> Outcome
+    requires { IsPosition IsHeap heaps.now }
+    ensures { HasOutcome game.now.code heaps.now result }
+{
+    outcome_by(&ByTriples { game }, heaps)
+}
+
 /// Who wins from the position under misère play, whatever its heaps are. It takes no memory.
 pub fn whole_outcome<A: Allocator, B: SmallAllocator>(
     game: &WholeGame<A>,
@@ -65,7 +76,16 @@ pub fn whole_outcome<A: Allocator, B: SmallAllocator>(
 ) -> Outcome
     ensures { HasOutcome game.now.code position.now result }
 {
-    outcome_by(&ByTriples { game }, position.heaps())
+    whole_outcome_at(game, position.heaps())
+}
+
+/// The answer in the position of these heaps, which stand rising: as `whole_answer`, of heaps in any memory.
+pub fn whole_answer_at<A: Allocator>(game: &WholeGame<A>, heaps: &[u64]) -> Answer
+    requires position { IsPosition IsHeap heaps.now }
+    requires rising { IsNonDecreasing heaps.now }
+    ensures { IsTriedAnswer game.now.code (λ _. game.now.start - 1) heaps.now result }
+{
+    answer_by(&ByTriples { game }, heaps)
 }
 
 /// What to do in the position, whatever its heaps are: nothing if no move exists or none wins, and else
@@ -77,5 +97,5 @@ pub fn whole_answer<A: Allocator, B: SmallAllocator>(
 ) -> Answer
     ensures { IsTriedAnswer game.now.code (λ _. game.now.start - 1) position.now result }
 {
-    answer_by(&ByTriples { game }, position.heaps())
+    whole_answer_at(game, position.heaps())
 }
