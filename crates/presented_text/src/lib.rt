@@ -2,11 +2,16 @@
 //! laws.
 //!
 //! `SpellsPresented` (specs/Spelling.antt) is the one text of what is said (`PresentedSaid`,
-//! specs/Said.antt); `said_at` (specs/Reading.antt) reads from left to right. Nothing here runs.
+//! specs/Said.antt); `said_at` (specs/Reading.antt) reads from left to right. `LetterCycle` is a part of it in memory.
+//! Nothing here runs.
 #![tactic(auto)]
 
+mod letter_cycle;
+
+pub use letter_cycle::LetterCycle;
+
 /// How many heaps have words of their own at most.
-pub const MOST_HEAPS: u16 = 4096;
+pub const MOST_HEAPS: u16 = 16384;
 
 /// The most relations, and the most words of the portion.
 pub const MOST_ITEMS: u16 = 60000;
