@@ -3,6 +3,7 @@
 from __future__ import annotations
 
 import collections
+import functools
 import pathlib
 import subprocess
 import sys
@@ -19,7 +20,7 @@ from script import load, root
 
 IN_ATLAS = ("0.d", "0.dd", "0.ddd", "4.d", "4.dd")
 SHAPES = (*IN_ATLAS, "0.dddd", "4.ddd")
-HEADS = "code codes outcome order portion start period heaps without tracks seconds accepted others".split()
+HEADS = "code codes outcome order portion start period heaps without tracks seconds accepted others whole".split()
 LAST_HEAPS = [(1, 9), (10, 19), (20, 29), (30, 49), (50, 99), (100, 1023), (1024, 1024)]
 OUT_OF_SECONDS = "out of seconds"
 
@@ -43,6 +44,20 @@ def outcome_of(text: str | None) -> str:
     if text is None:
         return "neither"
     return "infinite" if is_infinite(text) else "part" if heaps_of(text) else "full"
+
+
+@functools.cache
+def whole_codes() -> frozenset[str]:
+    """The codes of whole games with an infinite quotient, of which a text of the repository tells all outcomes."""
+    folders = ("certificates", "atlas/whole", "atlas/whole/further")
+    return frozenset(it.stem for folder in folders for it in (root / folder).glob("*.mqw"))
+
+
+@functools.cache
+def normal_codes() -> frozenset[str]:
+    """The codes of whole games that are normal play beyond a heap, by scripts/four_tails."""
+    lines = (root / "atlas/four_tails.tsv").read_text().splitlines()[1:]
+    return frozenset(line.split("\t")[0] for line in lines)
 
 
 def tracks_of(text: str) -> int:
@@ -91,6 +106,7 @@ class Kind:
         found |= {"code": self.first, "codes": str(len(self.codes)), "outcome": self.outcome}
         found |= {"seconds": f"{self.seconds:.1f}", "accepted": str(len(self.accepted))}
         found["others"] = " ".join(code if code in self.accepted else f"({code})" for code in self.codes[1:])
+        found["whole"] = str(sum(code in whole_codes() for code in self.codes) or "")
         if self.text:
             words = words_of(self.text)
             found["order"] = words["order"]
@@ -203,14 +219,14 @@ class Summary:
         codes = [code for kind in self.kinds for code in kind.codes]
         new = [(f"`{shape}`", (shape,)) for shape in SHAPES if shape not in IN_ATLAS]
         sides = [("shorter", IN_ATLAS), *new, ("all", SHAPES)]
+        found = (self.full, whole_codes(), self.infinite, normal_codes())
         rows = []
         for name, shapes in sides:
             those = [code for code in codes if shape_of(code) in shapes]
-            full, infinite = (sum(code in found for code in those) for found in (self.full, self.infinite))
-            rows.append([name, *(f"{it:,}" for it in (len(those), full, infinite, len(those) - full - infinite))])
-        yield from table_of(
-            ["Codes", "In all", "A full quotient", "None: a part has an infinite one", "Not known"], rows
-        )
+            counts = [sum(code in it for code in those) for it in found]
+            rows.append([name, *(f"{it:,}" for it in (len(those), *counts, len(those) - sum(counts)))])
+        heads = ["In all", "A full quotient", "None: all outcomes are known", "None: a part has an infinite one"]
+        yield from table_of(["Codes", *heads, "Normal play beyond a heap", "Not known"], rows)
 
     def orders(self) -> Iterator[str]:
         """The full quotients by order."""
