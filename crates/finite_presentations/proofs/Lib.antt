@@ -1,0 +1,3 @@
+pub mod Isomorphic
+pub mod Heaps
+pub mod Finite
