@@ -77,8 +77,8 @@ def entries_of(root: pathlib.Path, name: str) -> list[Entry]:
 
 
 def tails_of(root: pathlib.Path) -> dict[str, int]:
-    """Beyond which heap the whole game of a code is normal play, by the table of TAILS, which tails_stand compares."""
-    rows = re.findall(r"^\| (\d+) \| \d+ \| (`.*`) \|$", (root / "docs/TAILS.md").read_text(), re.M)
+    """Beyond which heap the whole game of a code is normal play, by the table of WHOLE, which tails_stand compares."""
+    rows = re.findall(r"^\| (\d+) \| \d+ \| (`.*`) \|$", (root / "docs/WHOLE.md").read_text(), re.M)
     return {code: int(heap) for heap, codes in rows for code in re.findall(r"`([^`]*)`", codes)}
 
 

@@ -148,8 +148,8 @@ test("as many games are listed as docs/ATLAS.md counts", () => {
 
 const isSolved = new Set(wholeTexts.map(([code]) => code));
 const endless = new Set([...infinite.map(({name}) => name.split("_")[0]), ...isSolved]);
-/** The codes of docs/TAILS.md. */
-const tailRows = readFileSync(path.join(root, "docs/TAILS.md"), "utf8").match(/^\| \d+ \| \d+ \| `.*$/gm) ?? [];
+/** The codes of docs/WHOLE.md. */
+const tailRows = readFileSync(path.join(root, "docs/WHOLE.md"), "utf8").match(/^\| \d+ \| \d+ \| `.*$/gm) ?? [];
 const tails = new Set(tailRows.flatMap((row) => [...row.matchAll(/`([^`]*)`/g)].map(([, code]) => code)));
 
 /** @type {[string, string, (entry: import("../page/atlas.js").Entry) => boolean][]} */
