@@ -4,3 +4,5 @@
 
 #[cfg(test)]
 mod kept_checker_tests;
+#[cfg(test)]
+mod told_labels_tests;
