@@ -82,13 +82,19 @@ def files_of(version: str, tag: str) -> dict[str, bytes]:
     certificates = [*sorted(atlas.glob("*.json")), *sorted(atlas.glob("infinite/*.mqi"))]
     files.update({f"misere/atlas/{it.relative_to(atlas)}": it.read_bytes() for it in certificates})
     about = f"misere-{version}.dist-info"
-    metadata = METADATA.format(version=version, description=_without_places((here / "README.md").read_text()))
+    metadata = METADATA.format(version=version, description=description())
     files[f"{about}/METADATA"] = metadata.encode()
     files.update({f"{about}/{name}": (here.parent / name).read_bytes() for name in LICENCES})
     files[f"{about}/WHEEL"] = WHEEL.format(tag=tag).encode()
     record = [f"{place},sha256={_sum(text)},{len(text)}\n" for place, text in files.items()]
     files[f"{about}/RECORD"] = "".join([*record, f"{about}/RECORD,,\n"]).encode()
     return files
+
+
+def description() -> str:
+    """What the page of the library says of how it is got and called."""
+    page = (here.parent / "docs/LIBRARY.md").read_text()
+    return _without_places(page.partition("\n## Opened, or by bytes\n")[0])
 
 
 def _without_places(page: str) -> str:
