@@ -1,32 +1,27 @@
-"""Nim tails, for coq/prove: octal games whose positions with a large heap are lost exactly if their nim sum is 0.
+"""Nim tails, for coq/prove: games whose positions with a large heap are lost exactly if their nim sum is 0.
 
-Each text of coq/tails/ is a partial certificate, of a code and of others whose first heaps have the same quotient. What
-is found here, Coq tests: the last heap outside the kernel of the quotient, the kernel's identity, and the element of
-each bit of nim values.
+The codes are those of the table of docs/TAILS.md, and the texts the partial certificates of the atlas's catalogues.
+What is found here, Coq tests: the last heap outside the kernel of the quotient, the kernel's identity, and the element
+of each bit of nim values.
 """
 
 from __future__ import annotations
 
 import dataclasses
 import functools
-import pathlib
+import json
 import re
 from collections.abc import Iterator
 
 from theorems import literal
+from script import root
 
-# Codes, and those whose certificates are the same but for the code
-KIN = {
-    "0.414": ("0.415", "0.434", "0.435"),
-    "0.56": ("0.561", "0.562", "0.563"),
-    "0.764": ("0.765", "0.766", "0.767"),
-    "0.776": ("0.777",),
-    "4.44": ("4.45", "4.46", "4.47", "4.64", "4.65", "4.66", "4.67"),
-}
+TABLE = "| Above heap | Outside | Codes |\n"
+CATALOGUES = ("octal", "hexadecimal", "parts")
 
 
 def options(digits: list[int], n: int) -> Iterator[tuple[int, ...]]:
-    """What moves in a heap leave, one heap or two of octal codes."""
+    """What moves in a heap leave."""
     for at, digit in enumerate(digits[: n + 1]):
         if digit & 1 and n == at:
             yield ()
@@ -34,6 +29,8 @@ def options(digits: list[int], n: int) -> Iterator[tuple[int, ...]]:
             yield (n - at,)
         if digit & 4:
             yield from ((one, n - at - one) for one in range(1, n - at))
+        if digit & 8:
+            yield from ((one, two, n - at - one - two) for one in range(1, n - at) for two in range(1, n - at - one))
 
 
 def nim_values(digits: list[int], last: int) -> list[int]:
@@ -63,7 +60,7 @@ class Tail:
 
     @property
     def digits(self) -> list[int]:
-        return [int(digit) for digit in self.code.replace(".", "")]
+        return [int(digit, 16) for digit in self.code.replace(".", "")]
 
     def numbers(self, name: str) -> list[list[int]]:
         """The numbers of the lines with a name."""
@@ -99,10 +96,19 @@ class Tail:
         )
 
 
-def tails(folder: pathlib.Path) -> list[Tail]:
-    """Of each code and its kin the tail."""
-    made = []
-    for code, kin in KIN.items():
-        text = (folder / f"{code}_heaps_40.mqc").read_bytes()
-        made += [Tail(it, re.sub(rb"(?m)^code .*$", b"code " + it.encode(), text)) for it in (code, *kin)]
-    return made
+def codes() -> list[str]:
+    """The codes that have a tail, in the order of the table."""
+    page = (root / "docs/TAILS.md").read_text()
+    rows = page[page.index(TABLE) + len(TABLE) :].split("\n\n")[0].splitlines()
+    return [code for row in rows for code in re.findall(r"`(\S+)`", row)]
+
+
+def tails() -> list[Tail]:
+    """The tail of each of these codes."""
+    texts = {
+        entry["code"]: entry["certificate"].encode()
+        for name in CATALOGUES
+        for entry in json.loads((root / f"atlas/{name}.json").read_text())["entries"]
+        if entry["heaps"]
+    }
+    return [Tail(code, texts[code]) for code in codes()]
