@@ -144,6 +144,38 @@ class Text:
         return said + f"Proof. apply solves_right. vm_cast_no_check (eq_refl (Some [{self.digits}])). Time Qed.\n"
 
 
+@dataclasses.dataclass(frozen=True)
+class Least:
+    """A text of a whole game, with the theorem that its start and its period are the least."""
+
+    of: Text
+
+    needs = ("WholeText", "WholeUnique")
+
+    @property
+    def name(self) -> str:
+        return self.of.name
+
+    @property
+    def text(self) -> bytes:
+        return self.of.text
+
+    @property
+    def theorem(self) -> str:
+        return "least_" + self.name
+
+    def line(self, name: str, otherwise: str) -> str:
+        return self.of.line(name, otherwise)
+
+    def source(self) -> str:
+        """The text as Coq has it, and the theorem."""
+        return (
+            f"\nDefinition text_of_{self.name} : text := {literal(self.text)}.\n\n"
+            f"Theorem {self.theorem} : has_least text_of_{self.name}.\n"
+            "Proof. apply test_least_text_right. vm_cast_no_check (eq_refl true). Time Qed.\n"
+        )
+
+
 def number(word: str) -> int:
     """A number of few digits, or 0."""
     return int(word) if re.fullmatch(r"[0-9]{1,9}", word) else 0

@@ -4,9 +4,11 @@ same. The second has been proved right by Coq, so what differs is a fault of the
 from __future__ import annotations
 
 import json
+import os
 import pathlib
 import random
 import re
+import resource
 import subprocess
 import sys
 import tempfile
@@ -14,7 +16,7 @@ from collections import Counter
 from collections.abc import Iterable
 from concurrent.futures import ProcessPoolExecutor
 from dataclasses import dataclass
-from itertools import repeat
+from itertools import chain, repeat
 
 sys.dont_write_bytecode = True
 import third_texts
@@ -23,6 +25,7 @@ from script import root
 
 CHECKER = root / "coq/out/checker"
 SECONDS = 60
+BATCH = 25  # so many texts to a run of the program of coq/
 LARGEST = 100  # the order above which a text isn't changed: with tracks each one takes seconds
 NUMBERED = re.compile(
     rb"(?m)^(phi|portion|words|row|apart|track|base|up|down|start|period|rise|odd|weights|leads) .*$"
@@ -92,6 +95,24 @@ def line_of(words: list[str | pathlib.Path]) -> str:
     return (run.stdout.decode(errors="replace").splitlines() or [f"status {run.returncode}"])[0]
 
 
+def limit() -> None:
+    resource.setrlimit(resource.RLIMIT_CPU, (SECONDS, SECONDS + 1))
+
+
+def checked(files: list[pathlib.Path]) -> dict[pathlib.Path, str]:
+    """The line that the program of coq/ prints of each file. A run goes through all of them; of one that has no end
+    the next begins behind the file at which it stood."""
+    said: dict[pathlib.Path, str] = {}
+    while left := files[len(said) :]:
+        # (of a single file it doesn't print the name)
+        run = subprocess.run([CHECKER, *left, os.devnull], capture_output=True, preexec_fn=limit, check=False)
+        lines = dict(line.split("\t", 1) for line in run.stdout.decode(errors="replace").splitlines())
+        is_ended = run.returncode < 0
+        told = left[: len(lines) + 1] if is_ended else left
+        said |= {file: lines.get(str(file), "no end" if is_ended else "status 3") for file in told}
+    return said
+
+
 @dataclass(frozen=True)
 class Oracle:
     """Two programs, and the texts that are changed for them."""
@@ -99,17 +120,20 @@ class Oracle:
     program: str
     samples: dict[str, list[bytes]]
 
-    def look(self, seed: int, kind: str) -> tuple[str, str, int]:
-        """What misere says of a changed text, what the other program says, and the seed."""
-        text = damaged(self.samples[kind], random.Random(seed))
+    def look(self, seeds: range, kind: str) -> list[tuple[str, str, int]]:
+        """What misere says of changed texts, what the other program says, and the seeds."""
+        command = "check" if kind == KINDS[0] else "infinite"
         with tempfile.TemporaryDirectory() as folder:
-            file = pathlib.Path(folder, "text")
-            file.write_bytes(text)
-            said = line_of([self.program, "check" if kind == KINDS[0] else "infinite", file])
-            other = line_of([CHECKER, file])
-        if other == "no" and said.startswith("no "):  # (the other program tells no fault of a text with tracks)
-            said = "no"
-        return said, other, seed
+            files = {pathlib.Path(folder, str(seed)): seed for seed in seeds}
+            for file, seed in files.items():
+                file.write_bytes(damaged(self.samples[kind], random.Random(seed)))
+            others = checked(list(files))
+            return [(as_told(line_of([self.program, command, it]), others[it]), others[it], files[it]) for it in files]
+
+
+def as_told(said: str, other: str) -> str:
+    """What misere says, without the fault where the other program tells none: of a text with tracks."""
+    return "no" if other == "no" and said.startswith("no ") else said
 
 
 def answer_of(line: str) -> str:
@@ -129,8 +153,10 @@ def look_at(oracle: Oracle, seed: int, count: int, kind: str, jobs: int | None) 
     answers: Counter[str] = Counter()
     wrong = 0
     with ProcessPoolExecutor(jobs) as pool:
-        seeds = range(seed, seed + count)
-        for said, other, at in pool.map(Oracle.look, repeat(oracle), seeds, repeat(kind), chunksize=8):
+        end = seed + count
+        batches = [range(at, min(at + BATCH, end)) for at in range(seed, end, BATCH)]
+        looks = pool.map(Oracle.look, repeat(oracle), batches, repeat(kind))
+        for said, other, at in chain.from_iterable(looks):
             is_given_up = "no end" in (said, other) or said == "no 8 Limit"
             answers["not compared" if is_given_up else answer_of(said)] += 1
             if said != other and not is_given_up:
