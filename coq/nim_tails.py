@@ -1,8 +1,8 @@
 """Nim tails, for coq/prove: games whose positions with a large heap are lost exactly if their nim sum is 0.
 
-The codes are those of the table of docs/TAILS.md, and the texts the partial certificates of the atlas's catalogues.
-What is found here, Coq tests: the last heap outside the kernel of the quotient, the kernel's identity, and the element
-of each bit of nim values.
+The codes are those of the table of docs/WHOLE.md, and the texts the partial certificates of the atlas's catalogues. They
+have none of 0.df from which its tail is seen. What is found here, Coq tests: the last heap outside the kernel of the
+quotient, the kernel's identity, and the element of each bit of nim values.
 """
 
 from __future__ import annotations
@@ -18,6 +18,7 @@ from script import root
 
 TABLE = "| Above heap | Outside | Codes |\n"
 CATALOGUES = ("octal", "hexadecimal", "parts")
+LARGER = ("0.df",)
 
 
 def options(digits: list[int], n: int) -> Iterator[tuple[int, ...]]:
@@ -97,10 +98,10 @@ class Tail:
 
 
 def codes() -> list[str]:
-    """The codes that have a tail, in the order of the table."""
-    page = (root / "docs/TAILS.md").read_text()
-    rows = page[page.index(TABLE) + len(TABLE) :].split("\n\n")[0].splitlines()
-    return [code for row in rows for code in re.findall(r"`(\S+)`", row)]
+    """The codes that have a tail by the atlas's certificates, in the order of the table."""
+    page = (root / "docs/WHOLE.md").read_text()
+    rows = page[page.index(TABLE) + len(TABLE) :].split("\n\n")[0]
+    return [code for code in re.findall(r"`(\S+)`", rows) if code not in LARGER]
 
 
 def tails() -> list[Tail]:
