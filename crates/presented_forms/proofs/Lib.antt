@@ -1,0 +1,5 @@
+pub mod InForm
+pub mod LastLetter
+pub mod OneLetter
+pub mod Pairs
+pub mod Reach
