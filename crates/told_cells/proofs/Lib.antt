@@ -1,0 +1,4 @@
+pub mod Steps
+pub mod Lowered
+pub mod Pairs
+pub mod Told

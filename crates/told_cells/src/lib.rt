@@ -1,0 +1,25 @@
+//! When the words of cells are told apart, though there are infinitely many: a context tells two cells, or it leads any
+//! two different words of them to lighter ones that are different still. A law, the contract of a function that does
+//! nothing.
+#![tactic(auto)]
+
+ghost use Rattle.std.specs.Prelude.{◌≡◌, ◌+◌, ◌≤◌, ℕ, Bool, List, length};
+ghost use Rattle.normal_forms.specs.Reductions.{AreConvergent};
+ghost use Rattle.normal_forms.specs.Forms.{NormalForms, IsElementWord, claim_by};
+ghost use Rattle.kept_positions.specs.Telling.{AreToldOrLowered};
+ghost use Rattle.presented_claims.specs.Claims.{cycled};
+ghost use Rattle.word_cells.specs.Folds.{HavePeriods, AreAbove};
+ghost use Rattle.told_cells.specs.Led.{weight_of, AreSeparated};
+
+/// If each two classes are separated, so are all words: by a context at once, or behind some that make the two lighter.
+pub fn separated_cells_are_told()
+    ensures { (n letters : ℕ) (relations : List (List ℕ × List ℕ)) → AreConvergent n relations
+        → (F : NormalForms n relations) (word : ℕ → List ℕ) (portion : List ℕ → Bool)
+        (tops folds : List (ℕ × ℕ)) → length folds ≤ n → AreAbove tops relations → HavePeriods folds
+        → (weights : List ℕ)
+        → ((a b : List ℕ) → IsElementWord n letters relations a → IsElementWord n letters relations b
+        → cycled folds a ≡ a → cycled folds b ≡ b
+        → AreSeparated n letters relations F portion tops folds weights a b)
+        → AreToldOrLowered (IsElementWord n letters relations) (claim_by n F.form word portion)
+        (λ x y. weight_of weights x + weight_of weights y) }
+{}
