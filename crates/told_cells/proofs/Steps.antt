@@ -20,12 +20,6 @@ weight-plus (k ∷ weights) (x ∷ u) [] = omega arith
 weight-plus (k ∷ weights) (x ∷ u) (y ∷ v) =
     let h = mul-add k x y in let r = weight-plus weights u v in omega (arith, h, r)
 
-pub weight-zeros : (weights : List ℕ) (n : ℕ) → weight_of weights (zeros n) ≡ 0
-weight-zeros [] n = refl
-weight-zeros (k ∷ weights) zero = refl
-weight-zeros (k ∷ weights) (suc n) =
-    let r = weight-zeros weights n in let m : k * 0 ≡ 0 = omega arith in omega (arith, r, m)
-
 -- ---- steps by letters
 
 -- one word for each letter of the list, added
