@@ -1,7 +1,7 @@
 """Nim tails, for coq/prove: games whose positions with a large heap are lost exactly if their nim sum is 0.
 
-The codes are those of the table of docs/WHOLE.md, and the texts the partial certificates of the atlas's catalogues. They
-have none of 0.df from which its tail is seen. What is found here, Coq tests: the last heap outside the kernel of the
+The codes are those of the table of docs/WHOLE.md, and the texts the partial certificates of the atlas's catalogues,
+which have none of 0.df that shows its tail. What is found here, Coq tests: the last heap outside the kernel of the
 quotient, the kernel's identity, and the element of each bit of nim values.
 """
 
