@@ -27,9 +27,7 @@ CHECKER = root / "coq/out/checker"
 SECONDS = 60
 BATCH = 25  # so many texts to a run of the program of coq/
 LARGEST = 100  # the order above which a text isn't changed: with tracks each one takes seconds
-NUMBERED = re.compile(
-    rb"(?m)^(phi|portion|words|row|apart|track|base|up|down|start|period|rise|odd|weights|leads) .*$"
-)
+NUMBERED = re.compile(rb"(?m)^(phi|portion|words|row|apart|track|base|up|down|start|period|rise|odd|weights|leads) .*$")
 KINDS = ("without tracks", "with tracks", "of whole games")
 
 
