@@ -25,8 +25,8 @@ CASE = re.compile(r"^  ([A-Z]\w*) : ", re.M)
 MODULES = re.compile(r"^pub mod (\w+);?$", re.M)
 FUNCTION = re.compile(r"pub (?:const |unsafe |extern \"C\" )*fn (\w+)")
 IN_TRAIT = re.compile(r"(?:unsafe )?fn (\w+)")
-TYPE = re.compile(r"pub (?:struct|enum|trait|type) (\w+)")
-CONSTANT = re.compile(r"pub (?:const|static) (\w+)")
+TYPE = re.compile(r"(?:pub(?:\(\w+\))? )?(?:struct|enum|trait|type) (\w+)")
+CONSTANT = re.compile(r"(?:pub(?:\(\w+\))? )?(?:const|static) (\w+)")
 HOLDER = re.compile(r"(?:unsafe )?(impl|pub trait)\b(.*)\{$")
 # What of a model contracts see
 SHOWN_OF_MODEL = ("Value", "view", "invariant")
@@ -170,9 +170,9 @@ def is_without_code(body: list[str]) -> bool:
 class Reader:
     """The public items of a file of src/, line by line as `rt fmt` lays them out."""
 
-    def __init__(self, file: File, lines: list[str], is_public: bool, names: set[str]) -> None:
+    def __init__(self, file: File, lines: list[str], is_public: bool, names: set[str], cited: set[str]) -> None:
         self.file, self.lines, self.at = file, lines, 0
-        self.is_public, self.names = is_public, names
+        self.is_public, self.names, self.cited = is_public, names, cited
         self.about: list[str] = []
         self.holder = ""
         self.in_trait = False
@@ -204,6 +204,10 @@ class Reader:
     def is_handed_out(self, name: str) -> bool:
         return self.is_public or name in self.names
 
+    def is_shown(self, name: str, line: str) -> bool:
+        """Whether a type or a constant is: others may use it, or definitions cite it."""
+        return line.startswith("pub ") and self.is_handed_out(name) or name in self.cited
+
     def open(self, word: str, head: str) -> None:
         """Goes into an impl or a trait: of a model what contracts see of the type, of a trait its ghosts."""
         plain = head
@@ -215,7 +219,7 @@ class Reader:
         if self.in_trait and self.is_handed_out(self.holder):
             ghosts = list(self.ghosts(()))
             self.add("type", self.holder, [self.lines[self.at], *ghosts, "}"])
-        elif of_trait == "Model" and self.is_handed_out(self.holder):
+        elif of_trait == "Model" and (self.is_handed_out(self.holder) or self.holder in self.cited):
             if ghosts := list(self.ghosts(SHOWN_OF_MODEL)):
                 self.about = []
                 self.add("model", self.holder, [f"impl{head.rstrip()} {{", *ghosts, "}"])
@@ -280,10 +284,10 @@ class Reader:
             self.at += 1
             lines.append(self.lines[self.at])
         self.at += 1
-        if lines[0].startswith("pub struct") and len(lines) > 1:
+        if lines[0].startswith("pub struct") and len(lines) > 1 and name not in self.cited - self.names:
             fields = list(open_fields(lines[1:-1]))
             lines = [lines[0], *fields, lines[-1]] if fields else [f"{lines[0]} .. }}"]
-        if self.is_handed_out(name):
+        if self.is_shown(name, lines[0]):
             self.add(kind, name, lines)
         self.about = []
 
@@ -304,8 +308,8 @@ def open_fields(lines: list[str]) -> Iterator[str]:
             about = []
 
 
-def source_file(crate: str, path: pathlib.Path, is_public: bool, names: set[str]) -> File:
-    """A file of src/ with what it hands out."""
+def source_file(crate: str, path: pathlib.Path, is_public: bool, names: set[str], cited: set[str]) -> File:
+    """A file of src/ with what it hands out, and the types that definitions cite."""
     text = path.read_text()
     file = File(crate, str(path.relative_to(CRATES / crate / "src")), False)
     uses_of(text, file)
@@ -315,8 +319,15 @@ def source_file(crate: str, path: pathlib.Path, is_public: bool, names: set[str]
             file.rust[own or of] = crate if first in ("crate", "super", "self") else first, of
     lines = text.splitlines()
     file.head = stripped([it for it in lines if it.startswith("//!")], "//!")
-    Reader(file, lines, is_public, names).read()
+    Reader(file, lines, is_public, names, cited).read()
     return file
+
+
+def cited_in(file: File) -> Iterator[str]:
+    """The types and constants of its own crate's src/ that a file of specs/ takes."""
+    for crate, path, name in [*file.uses.values(), *((*it, "") for it in file.parts.values())]:
+        if crate == file.crate and path.startswith("declared."):
+            yield from (it for it in [*path.split(".")[1:], name] if it[:1].isupper())
 
 
 @functools.cache
@@ -333,7 +344,8 @@ def crate_of(name: str) -> Crate:
     names, others = handed_out(top.read_text())
     public = set(MODULES.findall(top.read_text()))
     files = [top, *sorted(it for it in source.rglob("*.rt") if it != top and "tests" not in it.name)]
-    read = [source_file(name, it, it == top or it.stem in public, names) for it in files]
+    cited = {it for file in specs.values() for it in cited_in(file)}
+    read = [source_file(name, it, it == top or it.stem in public, names, cited) for it in files]
     return Crate(name, read[0].head, specs, read, others)
 
 

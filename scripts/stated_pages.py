@@ -32,7 +32,7 @@ CODE = re.compile(r"`([^`]+)`")
 PATH = re.compile(r"[\w:]+")
 LINK = re.compile(r"\[([^\]]+)\]\(([^)\s]+)\)")
 # What is before a name that is defined there
-WORDS = r"pub|fn|unsafe|extern \"C\"|abbrev|unfoldable|record|data|struct|enum|trait|type|const|static"
+WORDS = r"pub(?:\(\w+\))?|fn|unsafe|extern \"C\"|abbrev|unfoldable|record|data|struct|enum|trait|type|const|static"
 HEAD = re.compile(rf"(?:^|\n) *(?:\b(?:{WORDS}) )*$")
 KINDS = {"type": "Types", "law": "Laws", "call": "Calls"}
 ABOUT_KINDS = {
