@@ -1,3 +1,4 @@
 pub mod Below
 pub mod Positions
+pub mod Free
 pub mod Lifting

@@ -7,7 +7,7 @@ use Rattle.misere_theory.specs.Labels.{LabelClaim, label_of, AreLabels}
 use Rattle.kept_positions.specs.Kept.{IsBadBeside, IsMovable, weight_by}
 use Rattle.kept_positions.proofs.NoneBad.{all_heaps}
 use Rattle.kept_positions.proofs.Bad.{bad_parts, bad_sum}
-use Rattle.kept_checker.specs.Numbers.{LabelTables, KeptPositions, entry, IsEntryOf, IsBadWith, label_with, IsMadeOf, AreFoundTested}
+use Rattle.kept_checker.specs.Numbers.{LabelTables, KeptPositions, entry, IsEntryOf, IsBadWith, label_with, IsMadeOf, ClassTurns, AreFamiliesTested}
 use Rattle.kept_checker.specs.Numbering.{Numbering, weight_in, AreTablesOf}
 
 -- an entry is the first one, or one of those after it
@@ -199,7 +199,7 @@ module _
         all_bad = λ _. whole_of;
       }
 
-  module _ (f : AreFoundTested t k) where
+  module _ (u : ClassTurns) (f : AreFamiliesTested t u k) where
     found_empty : IsFoundAt 0
     found_empty =
         let n = f.empty.none in record {

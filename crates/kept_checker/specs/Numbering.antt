@@ -2,7 +2,7 @@
 use Rattle.std.specs.Prelude.{◌≡◌, ℕ, ◌<◌, ◌↔◌, true, List, [], ◌∷◌, slice_index}
 use Rattle.misere_theory.specs.Labels.{LabelClaim}
 use Rattle.kept_positions.specs.Kept.{IsBadBeside, IsMovable}
-use Rattle.kept_checker.specs.Numbers.{LabelTables, entry, is_bad}
+use Rattle.kept_checker.specs.Numbers.{LabelTables, ClassTurns, entry, is_bad, DoesTurn}
 
 -- A heap for each number, and a number for each heap that has an option: of those with one number, the one that
 -- has it is bad wherever another is. A label for each number, and a class for each label.
@@ -32,3 +32,9 @@ pub record AreTablesOf {L : Type 0} (IsLabel : L → Type 0) (heap : ℕ → Typ
       → b.label (entry t.next t.heaps w g) ≡ c.times (c.label (b.size g)) (b.label w)
   pub bad : (x : L) (w g : ℕ) → IsLabel x → w < t.labels → g < t.heaps
       → (is_bad t (b.class x) w g ≡ true) ↔ IsBadBeside code c (c.times x (b.label w)) (b.size g ∷ [])
+
+-- They say to which classes the labels of a class come with a heap more.
+abbrev pub AreTurnsOf : {L : Type 0} → (L → Type 0) → LabelClaim L → Numbering L → LabelTables → ClassTurns → Type 0
+AreTurnsOf {L} IsLabel c b t u =
+    (x : L) (g : ℕ) → IsLabel x → g < t.heaps
+    → DoesTurn t u (b.class x) g (b.class (c.times x (c.label (b.size g))))

@@ -1,6 +1,6 @@
 -- What is tested of kept positions, in numbers: heaps, labels and classes of labels are numbered, and tables say
 -- what they come to. This project's own.
-use Rattle.std.specs.Prelude.{◌≡◌, ℕ, ◌+◌, ◌-◌, ◌*◌, ◌<◌, ◌≤◌, ◌⊎◌, Bool, true, List, slice_index, slice_index_or}
+use Rattle.std.specs.Prelude.{◌≡◌, ℕ, ◌+◌, ◌-◌, ◌*◌, ◌<◌, ◌≤◌, ◌⊎◌, Bool, true, false, List, [], slice_index, slice_index_or}
 
 -- Entry y of row x, the rows being so wide and lying one after another.
 abbrev pub entry : List ℕ → ℕ → ℕ → ℕ → ℕ
@@ -18,9 +18,20 @@ pub record LabelTables : Type 0 where
   pub next : List ℕ
   pub weights : List ℕ
 
+-- Where the labels of a class go with a heap more: the classes of entry x of row g are those from number `first` of it
+-- on up to that of the next entry.
+pub record ClassTurns : Type 0 where
+  pub first : List ℕ
+  pub onto : List ℕ
+
+-- Nowhere is said where they go.
+abbrev pub no_turns : ClassTurns
+no_turns = record { first = []; onto = [] }
+
 -- Positions that are found: of each its label and its weight. Each of its heaps is one of its entries, those of
 -- position i from number `first` i on up to that of the next position: the heap, and the label of the others.
--- And a position for heap g more than position i: one to which it comes, or none if it is covered.
+-- A position for heap g more than position i: one to which it comes, or none if it is covered. And which heaps are free
+-- at position i: it stands for all positions with any more of these heaps.
 pub record KeptPositions : Type 0 where
   pub count : ℕ
   pub labels : List ℕ
@@ -30,10 +41,25 @@ pub record KeptPositions : Type 0 where
   pub others : List ℕ
   pub parents : List ℕ
   pub onward : List ℕ
+  pub free : List Bool
 
 -- Beside class x, with label w, heap g is bad.
 abbrev pub is_bad : LabelTables → ℕ → ℕ → ℕ → Bool
 is_bad t x w g = slice_index_or t.bad (entry t.images t.classes w x * t.heaps + g) true
+
+-- Heap g is free at position i.
+abbrev pub IsFree : LabelTables → KeptPositions → ℕ → ℕ → Type 0
+IsFree t k i g = slice_index_or k.free (i * t.heaps + g) false ≡ true
+
+-- With heap g more, labels of class x may have the class z.
+abbrev pub DoesTurn : LabelTables → ClassTurns → ℕ → ℕ → ℕ → Type 0
+DoesTurn t u x g z =
+    (o : ℕ) × (slice_index u.first (g * t.classes + x) ≤ o)
+    × (o < slice_index u.first (g * t.classes + x + 1)) × (slice_index u.onto o ≡ z)
+
+-- The class is marked.
+abbrev pub IsMarked : List Bool → ℕ → Type 0
+IsMarked marks x = slice_index_or marks x false ≡ true
 
 -- Number o is one of an entry of position i.
 abbrev pub IsEntryOf : KeptPositions → ℕ → ℕ → Type 0
@@ -97,13 +123,15 @@ pub data IsCoveredAt (t : LabelTables) (k : KeptPositions) (i g x : ℕ) : Type 
   By : (j : ℕ) → 0 < j → j < k.count → slice_index k.labels j ≡ label_with t k i g
       → slice_index k.weights j < weight_with t k i g → IsBadAt t k j x → IsCoveredAt t k i g x
 
--- Position j has the label of position i with heap g more, is no heavier, and is bad wherever that is.
+-- Position j has the label of position i with heap g more, is no heavier, is bad wherever that is, and what is free at
+-- i is free at j.
 pub record Comes (t : LabelTables) (k : KeptPositions) (i g j : ℕ) : Type 0 where
   pub some : 0 < j
   pub found : j < k.count
   pub label : slice_index k.labels j ≡ label_with t k i g
   pub weight : slice_index k.weights j ≤ weight_with t k i g
   pub bad : (x : ℕ) → x < t.classes → IsBadWith t k i g x → IsBadAt t k j x
+  pub free : (h : ℕ) → h < t.heaps → IsFree t k i h → IsFree t k j h
 
 -- Position i with heap g more has a label, isn't bad beside nothing, and comes to a position or is covered.
 pub record IsClosedWith (t : LabelTables) (k : KeptPositions) (i g : ℕ) : Type 0 where
@@ -112,9 +140,33 @@ pub record IsClosedWith (t : LabelTables) (k : KeptPositions) (i g : ℕ) : Type
   pub onward : ((j : ℕ) × Comes t k i g j)
       ⊎ ((x : ℕ) → x < t.classes → IsBadWith t k i g x → IsCoveredAt t k i g x)
 
+-- If heap g is free at position i, each class to which class x comes by it is marked.
+abbrev pub IsClosedBy : LabelTables → ClassTurns → KeptPositions → ℕ → List Bool → ℕ → ℕ → Type 0
+IsClosedBy t u k i marks x g = (z : ℕ) → IsFree t k i g → DoesTurn t u x g z → IsMarked marks z
+
+-- Position i isn't bad beside class x, and each class to which this comes by free heaps is marked.
+pub record IsGoodClass (t : LabelTables) (u : ClassTurns) (k : KeptPositions) (i : ℕ) (marks : List Bool) (x : ℕ)
+    : Type 0 where
+  pub good : IsBadAt t k i x → ⊥
+  pub closed : (g : ℕ) → g < t.heaps → IsClosedBy t u k i marks x g
+
+-- The class of nothing is marked, and each marked class is such a one. So beside nothing no position is bad that is
+-- position i and any more of the heaps that are free at it.
+pub record IsFamily (t : LabelTables) (u : ClassTurns) (k : KeptPositions) (i : ℕ) (marks : List Bool) : Type 0
+  where
+    pub start : IsMarked marks t.start
+    pub classes : (x : ℕ) → x < t.classes → IsMarked marks x → IsGoodClass t u k i marks x
+
 -- All that is tested.
-pub record AreFoundTested (t : LabelTables) (k : KeptPositions) : Type 0 where
+pub record AreFamiliesTested (t : LabelTables) (u : ClassTurns) (k : KeptPositions) : Type 0 where
   pub empty : IsEmptyFound k
+  pub none_free : (g : ℕ) → g < t.heaps → IsFree t k 0 g → ⊥
   pub labels : 0 < t.labels
   pub made : (j : ℕ) → 1 ≤ j → j < k.count → (i : ℕ) × (g : ℕ) × IsMadeOf t k j i g
-  pub closed : (i g : ℕ) → i < k.count → g < t.heaps → IsClosedWith t k i g
+  pub families : (i : ℕ) → 1 ≤ i → i < k.count → (marks : List Bool) × IsFamily t u k i marks
+  pub closed : (i g : ℕ) → i < k.count → g < t.heaps → IsFree t k i g ⊎ IsClosedWith t k i g
+
+-- The same, where no heap is free at any position.
+pub record AreFoundTested (t : LabelTables) (k : KeptPositions) : Type 0 where
+  pub tested : AreFamiliesTested t no_turns k
+  pub none_free : (i g : ℕ) → IsFree t k i g → ⊥

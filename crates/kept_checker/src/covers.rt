@@ -1,10 +1,10 @@
 //! Whether one heap more leads to a position that is found, or is covered.
 ghost use Rattle.std.specs.Prelude.{◌≡◌, ◌<◌, ◌≤◌, ◌⊎◌, ℕ, IsTrue, IfSome, slice_index};
-ghost use Rattle.kept_checker.specs.Numbers.{IsBadAt, IsBadWith, IsCoveredAt, Comes, IsClosedWith, label_with, weight_with};
+ghost use Rattle.kept_checker.specs.Numbers.{IsFree, IsBadAt, IsBadWith, IsCoveredAt, Comes, IsClosedWith, label_with, weight_with};
 ghost use Rattle.kept_checker.specs.Numbers.IsCoveredAt.{Empty, By};
 
 use crate::entries::{is_bad_at, is_good_with};
-use crate::reads::{number, number_at};
+use crate::reads::{is_free, is_not_free, number, number_at};
 use crate::tables::{KeptPositions, LabelTables};
 use std::alloc::Allocator;
 
@@ -151,6 +151,32 @@ fn is_as_bad<A: Allocator>(
     true
 }
 
+/// Whether heap `h` is seen to be free at position `j`, or not to be at position `i`.
+fn is_as_free_with<A: Allocator>(
+    t: &LabelTables<A>,
+    k: &KeptPositions<A>,
+    i: usize,
+    j: usize,
+    h: usize,
+) -> bool
+    ensures { IsTrue result → IsFree t.now k.now i h → IsFree t.now k.now j h }
+{
+    is_not_free(t, k, i, h) || is_free(t, k, j, h) == Some(true)
+}
+
+/// The same of each heap.
+fn is_as_free<A: Allocator>(t: &LabelTables<A>, k: &KeptPositions<A>, i: usize, j: usize) -> bool
+    ensures { IsTrue result → (h : ℕ) → h < t.now.heaps → IsFree t.now k.now i h
+        → IsFree t.now k.now j h }
+{
+    for h in 0..t.heaps {
+        if !is_as_free_with(t, k, i, j, h) {
+            return false;
+        }
+    }
+    true
+}
+
 /// Whether position `i` with heap `g` more comes to position `j`.
 fn comes<A: Allocator>(
     t: &LabelTables<A>,
@@ -173,7 +199,12 @@ fn comes<A: Allocator>(
     let Some(less) = number(&k.weights, j) else {
         return false;
     };
-    0 < j && j < k.count && own == label && less <= weight && is_as_bad(t, k, i, g, j)
+    0 < j
+        && j < k.count
+        && own == label
+        && less <= weight
+        && is_as_free(t, k, i, j)
+        && is_as_bad(t, k, i, g, j)
 }
 
 /// Whether position `i` with heap `g` more comes to a position that is found, or is covered by the listed ones

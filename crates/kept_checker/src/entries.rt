@@ -54,6 +54,45 @@ pub(crate) fn is_bad_at<A: Allocator>(
     }
 }
 
+/// Whether entry `o` is seen not to be bad beside class `x`.
+fn is_good_at_entry<A: Allocator>(
+    t: &LabelTables<A>,
+    k: &KeptPositions<A>,
+    o: usize,
+    x: usize,
+) -> bool
+    ensures { IsTrue result
+        → is_bad t.now x (slice_index k.now.others o) (slice_index k.now.heaps o) ≡ false }
+{
+    let Some(w) = number(&k.others, o) else {
+        return false;
+    };
+    let Some(g) = number(&k.heaps, o) else {
+        return false;
+    };
+    is_bad(t, x, w, g) == Some(false)
+}
+
+/// Whether position `i` is seen not to be bad beside class `x`.
+pub(crate) fn is_good_at<A: Allocator>(
+    t: &LabelTables<A>,
+    k: &KeptPositions<A>,
+    i: usize,
+    x: usize,
+) -> bool
+    ensures { IsTrue result → IsBadAt t.now k.now i x → ⊥ }
+{
+    let Some((from, to)) = bounds(&k.first, i) else {
+        return false;
+    };
+    for o in from..to {
+        if is_good_at_entry(t, k, o, x) {
+            return true;
+        }
+    }
+    false
+}
+
 /// Whether entry `o` with heap `g` more is seen not to be bad beside class `x`.
 fn is_good_entry<A: Allocator>(
     t: &LabelTables<A>,

@@ -26,11 +26,13 @@ impl<A: Allocator> From<Memory> for NotFound<A> {
     }
 }
 
-/// Positions that are kept, and for each label the classes beside which one of them is bad.
+/// Positions that are kept, for each label the classes beside which one of them is bad, and how many times a position
+/// has a heap that is free at it, if any is.
 #[derive(Drop)]
 struct Search<A: Allocator = Global> {
     found: KeptPositions<A>,
     reached: Vec<bool, A>,
+    cap: usize,
 }
 
 /// So many marks, true in the first row.
@@ -46,8 +48,8 @@ fn reached_by_nothing<A: Allocator>(alloc: A, t: &LabelTables<A>) -> Result<Vec<
 
 impl<A: Allocator + Copy> Search<A> {
     /// The empty position, which covers all others of its label.
-    fn new(alloc: A, t: &LabelTables<A>) -> Result<Search<A>, Memory> {
-        Ok(Search {
+    fn new(alloc: A, t: &LabelTables<A>, cap: usize) -> Result<Search<A>, Memory> {
+        let mut search = Search {
             found: KeptPositions {
                 count: 1,
                 labels: zeros(alloc, 1)?,
@@ -57,9 +59,37 @@ impl<A: Allocator + Copy> Search<A> {
                 others: Vec::new(alloc),
                 parents: zeros(alloc, 1)?,
                 onward: Vec::new(alloc),
+                free: Vec::new(alloc),
             },
             reached: reached_by_nothing(alloc, t)?,
-        })
+            cap,
+        };
+        search.keep_free(t, 0)?;
+        Ok(search)
+    }
+
+    /// How many times position `i` has heap `g`.
+    fn count_of(&self, i: usize, g: usize) -> usize {
+        let from = read(&self.found.first, i);
+        let to = read(&self.found.first, i.saturating_add(1));
+        let mut count = 0usize;
+        for o in from..to {
+            if read(&self.found.heaps, o) == g {
+                count = count.saturating_add(1);
+            }
+        }
+        count
+    }
+
+    /// Writes down which heaps are free at position `i`, the last one.
+    fn keep_free(&mut self, t: &LabelTables<A>, i: usize) -> Result<(), Memory> {
+        if 0 < self.cap {
+            for g in 0..t.heaps {
+                let free = self.cap <= self.count_of(i, g);
+                self.found.free.push(free)?;
+            }
+        }
+        Ok(())
     }
 
     /// Writes down beside which classes position `i` with heap `g` more is bad, if no position before was, and says
@@ -103,6 +133,7 @@ impl<A: Allocator + Copy> Search<A> {
         self.found.labels.push(small(label))?;
         self.found.weights.push(small(weight))?;
         self.found.parents.push(small(i))?;
+        self.keep_free(t, self.found.count)?;
         self.found.count = self.found.count.saturating_add(1);
         Ok(())
     }
@@ -119,7 +150,7 @@ impl<A: Allocator + Copy> Search<A> {
         Ok(all)
     }
 
-    /// Keeps position `i` with heap `g` more, if it isn't covered.
+    /// Keeps position `i` with heap `g` more, if it isn't covered and the heap isn't free.
     fn take(
         &mut self,
         alloc: A,
@@ -127,6 +158,9 @@ impl<A: Allocator + Copy> Search<A> {
         i: usize,
         g: usize,
     ) -> Result<(), NotFound<A>> {
+        if mark(&self.found.free, at(t.heaps, i, g)) {
+            return Ok(());
+        }
         if !is_good_with(t, &self.found, i, g, t.start) {
             let heaps = self.heaps_with(alloc, i, g)?;
             return Err(NotFound::Rule(heaps));
@@ -196,13 +230,15 @@ impl<A: Allocator + Copy> Search<A> {
     }
 }
 
-/// Positions that may pass the test; at most `limit` and those made of them by one heap more.
+/// Positions that may pass the test; at most `limit` and those made of them by one heap more. A heap is free at a
+/// position that has it `cap` times, if that isn't 0.
 pub(crate) fn positions_of<A: Allocator + Copy>(
     alloc: A,
     t: &LabelTables<A>,
+    cap: usize,
     limit: usize,
 ) -> Result<KeptPositions<A>, NotFound<A>> {
-    let mut search = Search::new(alloc, t)?;
+    let mut search = Search::new(alloc, t, cap)?;
     let mut from = 0;
     for _ in 0..limit {
         let to = search.found.count;

@@ -3,6 +3,7 @@
 
 mod covers;
 mod entries;
+mod families;
 mod finding;
 mod laws;
 mod listed;
@@ -13,6 +14,6 @@ mod tested;
 mod testing;
 
 pub use finding::NotFound;
-pub use laws::tested_positions_are_never_bad;
-pub use tables::{KeptPositions, LabelTables};
-pub use tested::tested_positions;
+pub use laws::{tested_families_are_never_bad, tested_positions_are_never_bad};
+pub use tables::{ClassTurns, KeptPositions, LabelTables};
+pub use tested::{tested_families, tested_positions};

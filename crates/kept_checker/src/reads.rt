@@ -1,8 +1,8 @@
 //! Reading numbers, of which `None` says that there is none there.
-ghost use Rattle.std.specs.Prelude.{◌≡◌, ◌+◌, ◌*◌, IfSome, true, slice_index};
-ghost use Rattle.kept_checker.specs.Numbers.{entry, is_bad};
+ghost use Rattle.std.specs.Prelude.{◌≡◌, ◌+◌, ◌*◌, IfSome, IsTrue, true, false, slice_index, slice_index_or};
+ghost use Rattle.kept_checker.specs.Numbers.{entry, is_bad, IsFree};
 
-use crate::tables::LabelTables;
+use crate::tables::{KeptPositions, LabelTables};
 use std::alloc::Allocator;
 
 /// Number `x` of the list.
@@ -43,4 +43,39 @@ pub(crate) fn is_bad<A: Allocator>(t: &LabelTables<A>, x: usize, w: usize, g: us
         Some(v) => Some(*v),
         None => None,
     }
+}
+
+/// Whether class `x` is marked.
+pub(crate) fn is_marked(marks: &[bool], x: usize) -> bool
+    ensures { result ≡ slice_index_or marks.now x false }
+{
+    match marks.get(x) {
+        Some(v) => *v,
+        None => false,
+    }
+}
+
+/// Whether heap `g` is free at position `i`.
+pub(crate) fn is_free<A: Allocator>(
+    t: &LabelTables<A>,
+    k: &KeptPositions<A>,
+    i: usize,
+    g: usize,
+) -> Option<bool>
+    ensures { IfSome result (λ v. v ≡ slice_index_or k.now.free (i * t.now.heaps + g) false) }
+{
+    let row = i.checked_mul(t.heaps)?;
+    Some(is_marked(&k.free, row.checked_add(g)?))
+}
+
+/// Whether heap `g` is seen not to be free at position `i`.
+pub(crate) fn is_not_free<A: Allocator>(
+    t: &LabelTables<A>,
+    k: &KeptPositions<A>,
+    i: usize,
+    g: usize,
+) -> bool
+    ensures { IsTrue result → IsFree t.now k.now i g → ⊥ }
+{
+    is_free(t, k, i, g) == Some(false)
 }

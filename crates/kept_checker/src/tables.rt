@@ -34,9 +34,26 @@ impl<A: Allocator> Model for LabelTables<A> {
     } };
 }
 
+/// Where the labels of a class go with a heap more, by classes: a row for each heap, and for each class the numbers
+/// from `first` on up to that of the next one, in `onto`. Labels of one class may go to several.
+#[derive(Drop)]
+pub struct ClassTurns<A: Allocator = Global> {
+    pub first: Vec<u32, A>,
+    pub onto: Vec<u32, A>,
+}
+
+impl<A: Allocator> Model for ClassTurns<A> {
+    ghost use Rattle.kept_checker.specs.Numbers as numbers;
+
+    ghost Value = { numbers.ClassTurns };
+
+    ghost view = { λ u. record { first = u.first.items; onto = u.onto.items } };
+}
+
 /// Positions that are found: of each its label and its weight; its entries, each a heap and the label of the
-/// others, from number `first[i]` on up to that of the next position; the position of which it is made; and the
-/// position to which one heap more leads, or `count` if it is covered.
+/// others, from number `first[i]` on up to that of the next position; the position of which it is made; the position
+/// to which one heap more leads, or `count` if it is covered; and a mark for each heap that is free at it, of which the
+/// position stands for all with any more of them.
 #[derive(Drop)]
 pub struct KeptPositions<A: Allocator = Global> {
     pub count: usize,
@@ -47,6 +64,7 @@ pub struct KeptPositions<A: Allocator = Global> {
     pub others: Vec<u32, A>,
     pub parents: Vec<u32, A>,
     pub onward: Vec<u32, A>,
+    pub free: Vec<bool, A>,
 }
 
 impl<A: Allocator> Model for KeptPositions<A> {
@@ -63,5 +81,6 @@ impl<A: Allocator> Model for KeptPositions<A> {
       others = k.others.items;
       parents = k.parents.items;
       onward = k.onward.items;
+      free = k.free.items;
     } };
 }

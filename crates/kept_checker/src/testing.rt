@@ -1,12 +1,13 @@
 //! The test of positions that are found.
-ghost use Rattle.std.specs.Prelude.{◌≡◌, ◌<◌, ◌≤◌, ◌+◌, ℕ, IsTrue, slice_index};
-ghost use Rattle.kept_checker.specs.Numbers.{entry, IsShifted, HasEntriesOf, IsMadeOf, IsEmptyFound, IsClosedWith, AreFoundTested};
+ghost use Rattle.std.specs.Prelude.{◌≡◌, ◌⊎◌, ◌<◌, ◌≤◌, ◌+◌, ℕ, IsTrue, slice_index};
+ghost use Rattle.kept_checker.specs.Numbers.{entry, IsShifted, HasEntriesOf, IsMadeOf, IsEmptyFound, IsFree, IsClosedWith, AreFamiliesTested};
 
 use crate::covers::{is_onward, label_with, weight_with};
 use crate::entries::is_good_with;
+use crate::families::are_families;
 use crate::listed::Listed;
-use crate::reads::{bounds, number, number_at};
-use crate::tables::{KeptPositions, LabelTables};
+use crate::reads::{bounds, is_free, is_not_free, number, number_at};
+use crate::tables::{ClassTurns, KeptPositions, LabelTables};
 use std::alloc::Allocator;
 
 /// Whether position 0 is seen to be the empty one.
@@ -197,6 +198,22 @@ fn is_closed_with<A: Allocator>(
     label < t.labels && is_good_with(t, k, i, g, t.start) && is_onward(t, k, c.of(label), i, g)
 }
 
+/// The same, unless the heap is free at position `i`.
+fn is_free_or_closed<A: Allocator>(
+    t: &LabelTables<A>,
+    k: &KeptPositions<A>,
+    c: &Listed<A>,
+    i: usize,
+    g: usize,
+) -> bool
+    ensures { IsTrue result → IsFree t.now k.now i g ⊎ IsClosedWith t.now k.now i g }
+{
+    if is_free(t, k, i, g) == Some(true) {
+        return true;
+    }
+    is_closed_with(t, k, c, i, g)
+}
+
 /// The same with each heap.
 fn is_closed<A: Allocator>(
     t: &LabelTables<A>,
@@ -204,10 +221,11 @@ fn is_closed<A: Allocator>(
     c: &Listed<A>,
     i: usize,
 ) -> bool
-    ensures { IsTrue result → (g : ℕ) → g < t.now.heaps → IsClosedWith t.now k.now i g }
+    ensures { IsTrue result → (g : ℕ) → g < t.now.heaps
+        → IsFree t.now k.now i g ⊎ IsClosedWith t.now k.now i g }
 {
     for g in 0..t.heaps {
-        if !is_closed_with(t, k, c, i, g) {
+        if !is_free_or_closed(t, k, c, i, g) {
             return false;
         }
     }
@@ -217,7 +235,7 @@ fn is_closed<A: Allocator>(
 /// The same of each position.
 fn are_closed<A: Allocator>(t: &LabelTables<A>, k: &KeptPositions<A>, c: &Listed<A>) -> bool
     ensures { IsTrue result → (i g : ℕ) → i < k.now.count → g < t.now.heaps
-        → IsClosedWith t.now k.now i g }
+        → IsFree t.now k.now i g ⊎ IsClosedWith t.now k.now i g }
 {
     for i in 0..k.count {
         if !is_closed(t, k, c, i) {
@@ -227,18 +245,39 @@ fn are_closed<A: Allocator>(t: &LabelTables<A>, k: &KeptPositions<A>, c: &Listed
     true
 }
 
-/// Whether the positions pass all tests. By their labels they are listed, so that covers are found fast.
+/// Whether no heap is free at the empty position.
+fn is_none_free<A: Allocator>(t: &LabelTables<A>, k: &KeptPositions<A>) -> bool
+    ensures { IsTrue result → (g : ℕ) → g < t.now.heaps → IsFree t.now k.now 0 g → ⊥ }
+{
+    for g in 0..t.heaps {
+        if !is_not_free(t, k, 0, g) {
+            return false;
+        }
+    }
+    true
+}
+
+/// Whether the positions pass all tests. By their labels they are listed, so that covers are found fast; and there is
+/// room for a mark for each class.
 pub(crate) fn are_tested<A: Allocator>(
     t: &LabelTables<A>,
+    u: &ClassTurns<A>,
     k: &KeptPositions<A>,
     c: &Listed<A>,
+    marks: &mut [bool],
 ) -> bool
-    ensures { IsTrue result → AreFoundTested t.now k.now }
+    ensures { IsTrue result → AreFamiliesTested t.now u.now k.now }
 {
     if !is_empty_found(k) || t.labels == 0 {
         return false;
     }
+    if !is_none_free(t, k) {
+        return false;
+    }
     if !are_made(t, k) {
+        return false;
+    }
+    if !are_families(t, u, k, marks) {
         return false;
     }
     are_closed(t, k, c)
