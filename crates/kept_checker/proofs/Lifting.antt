@@ -107,9 +107,6 @@ module _
     abbrev grown : List ℕ
     grown = b.size (b.number n) ∷ s.is.at
 
-    grown_is : IsLabel (label_of c grown)
-    grown_is = m.closed _ _ (labels _ heap_in) (label_is s.is.at at_in)
-
     -- the free heaps' label times that of the position with the heap
     same_grown : c.times (label_of c s.more) (label_of c grown) ≡ label_of c (n ∷ Z)
     same_grown =
