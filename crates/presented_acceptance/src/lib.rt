@@ -5,4 +5,6 @@
 #[cfg(test)]
 mod kept_checker_tests;
 #[cfg(test)]
+mod lowered_labels_tests;
+#[cfg(test)]
 mod told_labels_tests;

@@ -1,2 +1,3 @@
 pub mod Told
 pub mod Marks
+pub mod Lowered

@@ -13,7 +13,7 @@ use std::alloc::Allocator;
 pub enum NotTold {
     /// No label tells these two classes apart, the greater of which comes first.
     Alike(usize, usize),
-    /// A table is too short.
+    /// A table is too short, or a test of infinitely many labels failed.
     Undecided,
     /// A growth was refused.
     Memory(Memory),
@@ -69,7 +69,7 @@ fn tell_by_any<A: Allocator>(
 }
 
 /// The same, first by the contexts, which mostly do.
-fn tell_pair<A: Allocator>(
+pub(crate) fn tell_pair<A: Allocator>(
     t: &LabelTables<A>,
     marks: &[bool],
     contexts: &[u32],
