@@ -7,7 +7,7 @@ use Rattle.misere_theory.proofs.Sums.{IsPosition-append, label_in, label-append}
 use Rattle.kept_positions.specs.Kept.{IsBadBeside, IsMovable, weight_by, IsCoveredBy, AreKept, AreNeverBad}
 use Rattle.kept_positions.proofs.NoneBad.{all_heaps, none_is_bad}
 use Rattle.kept_positions.proofs.Bad.{bad_parts, bad_sum}
-use Rattle.kept_checker.specs.Numbers.{LabelTables, ClassTurns, KeptPositions, IsFree, DoesTurn, IsBadAt, IsBadWith, label_with, IsCoveredAt, Comes, IsClosedWith, AreFamiliesTested}
+use Rattle.kept_checker.specs.Numbers.{LabelTables, ClassTurns, KeptPositions, IsFree, DoesTurn, IsBadAt, IsBadWith, label_with, IsCoveredAt, Comes, IsClosedWith, AreFamiliesTested, AreFoundTested, no_turns}
 use Rattle.kept_checker.specs.Numbers.IsCoveredAt.{Empty, By}
 use Rattle.kept_checker.specs.Numbering.{Numbering, weight_in, AreTablesOf}
 use Rattle.kept_checker.proofs.Positions.{one_label, IsFoundAt, grown_label, grown_bad, bad_with, found_at}
@@ -296,5 +296,15 @@ module _
     closed = comes;
   }
 
-  pub none_bad : AreNeverBad heap code c
-  none_bad = none_is_bad IsLabel c m heap labels code part (weight_in t b) ComesTo kept
+  pub none_bad_of_families : AreNeverBad heap code c
+  none_bad_of_families = none_is_bad IsLabel c m heap labels code part (weight_in t b) ComesTo kept
+
+-- The same where no heap is free.
+pub none_bad : {L : Type 0} (IsLabel : L → Type 0) (c : LabelClaim L) (m : AreLabels IsLabel c.one c.times)
+    (heap : ℕ → Type 0) (labels : (n : ℕ) → heap n → IsLabel (c.label n))
+    (code : List ℕ) (part : IsPart heap code)
+    (b : Numbering L) (t : LabelTables) (k : KeptPositions) → AreTablesOf IsLabel heap code c b t
+    → AreFoundTested t k → AreNeverBad heap code c
+none_bad IsLabel c m heap labels code part b t k d found =
+    none_bad_of_families IsLabel c m heap labels code part b t k d no_turns
+    (λ i g _ free _ _. absurd (found.none_free i g free)) found.tested

@@ -1,9 +1,7 @@
 use Rattle.std.proofs.Common.{◌≡◌, true}
-use Rattle.kept_checker.specs.Numbers.{no_turns}
 use Rattle.kept_checker.proofs.Lifting.{none_bad}
 use Rattle.kept_checker.proofs.laws.tested_positions_are_never_bad.Goals as goal
 
 pub returns : goal.returns
-returns g _ labels heaps code c b t k part monoid each says found =
-    none_bad (λ x. labels x ≡ true) c monoid (λ n. heaps n ≡ true) each code part b t k says no_turns
-    (λ i g _ free _ _. absurd (found.none_free i g free)) found.tested
+returns g _ labels heaps code c b t k part monoid each says tested =
+    none_bad (λ x. labels x ≡ true) c monoid (λ n. heaps n ≡ true) each code part b t k says tested
