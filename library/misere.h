@@ -225,8 +225,10 @@ uint32_t misere_opened_answers(misere_opened *opened, const uint64_t *heaps, siz
 uint32_t misere_opened_describe(misere_opened *opened, uint32_t output, uint32_t form, uint8_t *told,
                                 size_t room, uint64_t *count);
 
-/* Whether the bytes are an accepted certificate of an infinite quotient: it tells who wins each position
- * of its heaps, and their misere quotient is infinite. MISERE_LIMIT is the limit here too. */
+/* Whether the bytes are an accepted text of an infinite quotient: it tells who wins each position of its
+ * heaps, and their misere quotient is infinite. They are a certificate with tracks, which begins with
+ * mqi 1, or a text of a whole game, mqw 1, of which each heap is one. MISERE_LIMIT is the limit of the
+ * first here too. */
 uint32_t misere_check_infinite(const uint8_t *bytes, size_t length, uint32_t limit);
 
 /* Checks the bytes as misere_check_infinite does. With MISERE_OUTCOME it writes to *count how many heaps
@@ -249,8 +251,17 @@ uint32_t misere_infinite_open(const uint8_t *bytes, size_t length, uint32_t limi
 uint32_t misere_infinite_share(misere_infinite *opened, misere_infinite *told);
 uint32_t misere_infinite_close(misere_infinite *opened);
 
+/* Of which heaps it speaks, in *told: 0 if of those of every size, and else the last one. Some before
+ * that may be left out. */
+uint32_t misere_infinite_kind(misere_infinite *opened, uint64_t *told);
+
+/* Writes the code of the game, such as "0.26", and to *count how many bytes it has; with MISERE_NO_ROOM
+ * *count alone. */
+uint32_t misere_infinite_code(misere_infinite *opened, uint8_t *told, size_t room, uint64_t *count);
+
 /* As misere_opened_outcome and misere_opened_answer. MISERE_BEYOND is answered for a heap above the last
- * one, and for one that the certificate leaves out. */
+ * one, and for one that the certificate leaves out. By a text of a whole game the answer is the first
+ * winning move of those that leave at most one heap from its start on; if any wins, one of these does. */
 uint32_t misere_infinite_outcome(misere_infinite *opened, const uint64_t *heaps, size_t count,
                                  uint32_t *told);
 uint32_t misere_infinite_answer(misere_infinite *opened, uint64_t *heaps, size_t count,
@@ -263,7 +274,8 @@ uint32_t misere_infinite_answers(misere_infinite *opened, const uint64_t *heaps,
                                  const uint64_t *ends, size_t positions, misere_move *told, size_t room);
 
 /* Writes the description of what is opened, plain, for LaTeX or in JSON (MISERE_DESCRIPTION,
- * MISERE_LATEX, MISERE_JSON), and to *count how many bytes it has; with MISERE_NO_ROOM *count alone. */
+ * MISERE_LATEX, MISERE_JSON), and to *count how many bytes it has; with MISERE_NO_ROOM *count alone.
+ * A whole game has none: MISERE_NOT_DESCRIBED. */
 uint32_t misere_infinite_describe(misere_infinite *opened, uint32_t output, uint8_t *told, size_t room,
                                   uint64_t *count);
 

@@ -136,6 +136,8 @@ static uint32_t infinite_open_over(void) {
     stop_unless(!misere_infinite_outcome(&one, heaps, 12, &number) && !misere_infinite_close(&one), "what stays open isn't told");
     return status;
 }
+static uint32_t infinite_kind(void) { return misere_infinite_kind(&infinite, &told.count); }
+static uint32_t infinite_code(void) { return misere_infinite_code(&infinite, told.text, sizeof told.text, &told.count); }
 static uint32_t infinite_outcome(void) { return misere_infinite_outcome(&infinite, heaps, 12, told.numbers); }
 static uint32_t infinite_answer(void) {
     uint64_t mine[12];
@@ -181,6 +183,8 @@ static const struct {
     {"infinite_open", infinite_open, 1},
     {"infinite_share", infinite_share, 1},
     {"infinite_open over another", infinite_open_over, 1},
+    {"infinite_kind", infinite_kind, 0},
+    {"infinite_code", infinite_code, 1},
     {"infinite_outcome", infinite_outcome, 0},
     {"infinite_answer", infinite_answer, 0},
     {"infinite_outcomes", infinite_outcomes, 0},

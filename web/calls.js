@@ -87,6 +87,8 @@ const INFINITE_CALLS = {
   misere_infinite_failure: ["&[u8]", "u32", "&mut [u64]", "&mut u64"],
   misere_infinite_open: ["&[u8]", "u32", "&mut OpenedInfinite"],
   misere_infinite_close: ["&mut OpenedInfinite"],
+  misere_infinite_kind: ["&mut OpenedInfinite", "&mut u64"],
+  misere_infinite_code: ["&mut OpenedInfinite", "&mut [u8]", "&mut u64"],
   misere_infinite_outcomes: ["&mut OpenedInfinite", "&[u64]", "&[u64]", "&mut [u32]"],
   misere_infinite_answers: ["&mut OpenedInfinite", "&[u64]", "&[u64]", "&mut [MisereAnswer]"],
   misere_infinite_describe: ["&mut OpenedInfinite", "u32", "&mut [u8]", "&mut u64"],

@@ -19,7 +19,7 @@ Given = Union[bytes, str, "os.PathLike[str]"]
 # As many bytes are room for most descriptions
 USUAL_TEXT = 1 << 16
 # Which call checks a text that begins so
-CHECKS: Final = {b"mqc ": "check", b"mqi ": "check_infinite"}
+CHECKS: Final = {b"mqc ": "check", b"mqi ": "check_infinite", b"mqw ": "check_infinite"}
 Self = TypeVar("Self", bound="Asked")
 
 

@@ -85,7 +85,8 @@ class Catalogue(_Kept[Quotient]):
 
 
 class InfiniteCatalogue(_Kept[InfiniteQuotient]):
-    """The infinite quotients of a folder of certificates, NAME.mqi each, or without a path those of the atlas.
+    """The infinite quotients of a folder of certificates, NAME.mqi each, and NAME.mqw of whole games; or without a path
+    those of the atlas, of which none is of a whole game.
 
     catalogue["0.07"] or catalogue["Dawson's Kayles"] is that of the fewest heaps, catalogue.furthest("0.07") that of the
     most, and catalogue["0.07", 34] that of the heaps to 34: of several the one that leaves out the fewest. Each is checked
@@ -93,7 +94,7 @@ class InfiniteCatalogue(_Kept[InfiniteQuotient]):
 
     def __init__(self, path: str | os.PathLike[str] | None = None, limit: int = LIMIT) -> None:
         folder = pathlib.Path(path) if path is not None else _atlas() / INFINITE
-        texts = _infinite_of(sorted(folder.glob("*.mqi")))
+        texts = _infinite_of(sorted(folder.glob("*.mq[iw]")))
         kinds: Kinds = {}
         for code, heaps in sorted(texts):
             kinds.setdefault(code, heaps)
@@ -112,7 +113,7 @@ def _infinite_of(files: Iterable[pathlib.Path]) -> Texts:
             part = _certificate.read_part(text)
         except (ValueError, KeyError, IndexError):
             raise Refused(TEXT, f"{file} is no certificate") from None
-        entry, left_out = (part.code, part.last_heap), len(part.without)
+        entry, left_out = (part.code, part.last_heap or 0), len(part.without)
         if entry not in texts or left_out < texts[entry][0]:
             texts[entry] = (left_out, text)
     return {entry: text for entry, (_, text) in texts.items()}

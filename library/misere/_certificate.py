@@ -38,17 +38,20 @@ class Certificate:
 
 
 class Part(NamedTuple):
-    """Which heaps a certificate of an infinite quotient speaks of: those up to the last one, but for some."""
+    """Which heaps a text of an infinite quotient speaks of: those up to the last one, but for some; or all, and then there
+    is no last one."""
 
     code: str
-    last_heap: int
+    last_heap: int | None
     without: tuple[int, ...]
 
 
 def read_part(text: str) -> Part:
-    """What an accepted text of an infinite quotient says of its heaps. A heap that is left out is a minus in the line of
-    their elements."""
+    """What an accepted text of an infinite quotient says of its heaps. One of a whole game, mqw, speaks of all. A heap that
+    a certificate with tracks leaves out is a minus in the line of their elements."""
     words = {name: words for name, *words in (line.split(" ") for line in text.splitlines()[:5])}
+    if "mqw" in words:
+        return Part(words["code"][0], None, ())
     without = tuple(heap for heap, element in enumerate(words["phi"], 1) if element == "-")
     return Part(words["code"][0], int(words["heaps"][0]), without)
 

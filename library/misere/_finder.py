@@ -42,7 +42,7 @@ def check(certificate: Given, limit: int = LIMIT) -> Quotient:
 
 def check_infinite(certificate: Given, limit: int = LIMIT) -> InfiniteQuotient:
     """The infinite quotient that the certificate is of; or it raises Refused. The certificate is given as to `check`, and
-    begins with mqi 1."""
+    begins with mqi 1, or with mqw 1 if it is of a whole game."""
     return InfiniteQuotient(certificate, limit)
 
 

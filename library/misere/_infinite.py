@@ -9,7 +9,7 @@ from . import _certificate, _shown
 from ._asked import Asked, Given, number_of_output
 from ._bounds import LIMIT
 from ._certified import Infinite
-from ._faults import NotOpen
+from ._faults import NotDescribed, NotOpen
 
 #: What is told of an infinite quotient.
 InfiniteOutput = Literal["description", "latex", "json"]
@@ -18,9 +18,9 @@ OUTPUTS: tuple[Optional[InfiniteOutput], ...] = ("description", "latex", None, "
 
 
 class InfiniteQuotient(Asked):
-    """A certified infinite misère quotient: the outcomes of all positions of some heaps of a game, which no finite quotient
-    predicts. It is made by a check alone, and doesn't change. Any number of threads may ask it. It is closed, copied and
-    pickled as a Quotient is.
+    """A certified infinite misère quotient: the outcomes of all positions of some heaps of a game, or of all its positions,
+    which no finite quotient predicts. It is made by a check alone, and doesn't change. Any number of threads may ask it. It
+    is closed, copied and pickled as a Quotient is.
 
     A game may have several certificates, with other heaps or monoids. They never contradict each other."""
 
@@ -33,8 +33,8 @@ class InfiniteQuotient(Asked):
         self._said = _certificate.read_part(self._bytes.decode("ascii"))
 
     @property
-    def last_heap(self) -> int:
-        """The last heap of which it speaks."""
+    def last_heap(self) -> int | None:
+        """The last heap of which it speaks; None if it is of the whole game, and speaks of all."""
         return self._said.last_heap
 
     @property
@@ -48,7 +48,8 @@ class InfiniteQuotient(Asked):
 
     def describe(self, output: InfiniteOutput = "description") -> str:
         """Its monoid, tracks and regions, and the positions that show that the quotient is infinite, with their outcomes:
-        what `misere infinite --show` prints. `output` is "description", "latex" or "json"."""
+        what `misere infinite --show` prints. `output` is "description", "latex" or "json". That of a whole game raises
+        NotDescribed."""
         return self._text(number_of_output(output, OUTPUTS))
 
     def to_dict(self) -> dict[str, Any]:
@@ -60,10 +61,10 @@ class InfiniteQuotient(Asked):
         """What a notebook shows."""
         try:
             return _shown.infinite_html_of(self.describe())
-        except NotOpen:
+        except (NotDescribed, NotOpen):
             return None
 
     def __repr__(self) -> str:
         without = f" without {' '.join(map(str, self.without))}" if self.without else ""
-        closed = ", closed" if self.closed else ""
-        return f"<infinite misère quotient of {self.code}: heaps to {self.last_heap}{without}{closed}>"
+        heaps = "all heaps" if self.last_heap is None else f"heaps to {self.last_heap}{without}"
+        return f"<infinite misère quotient of {self.code}: {heaps}{', closed' if self.closed else ''}>"

@@ -60,6 +60,8 @@ CALLS: dict[str, list[Any]] = {
     "misere_infinite_open": [*_bytes, _number, _owner],
     "misere_infinite_share": [_owner, _owner],
     "misere_infinite_close": [_owner],
+    "misere_infinite_kind": [_owner, _count],
+    "misere_infinite_code": [_owner, _slice, _size, _count],
     "misere_infinite_outcome": [_owner, _slice, _size, _word],
     "misere_infinite_answer": [_owner, _slice, _size, _move],
     "misere_infinite_outcomes": [_owner, _slice, _size, _slice, _size, _slice, _size],

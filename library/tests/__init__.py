@@ -21,6 +21,11 @@ def infinite(name: str) -> misere.InfiniteQuotient:
     return misere.check_infinite((samples / f"{name}.mqi").read_bytes())
 
 
+def whole(code: str) -> misere.InfiniteQuotient:
+    """That of a sample of a whole game."""
+    return misere.check_infinite((samples / f"{code}.mqw").read_bytes())
+
+
 def raised(call: Callable[[], object]) -> misere.MisereError | None:
     """What a call raises."""
     try:

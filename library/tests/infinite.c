@@ -1,5 +1,5 @@
 /* What is told of opened infinite quotients: of 0.354 to heap 5, and of Dawson's Kayles, 0.07, to heap 34 without 33, of
- * which docs/INFINITE.md has the families.
+ * which docs/INFINITE.md has the families; and of all heaps of 0.26, of which docs/WHOLE.md has the theorem.
  * cc infinite.c ../libmisere.a -o infinite && ./infinite FOLDER-OF-CERTIFICATES */
 #include "../misere.h"
 #include <stdio.h>
@@ -97,6 +97,46 @@ static void of_dawsons_kayles(misere_infinite *opened) {
     stop_unless(misere_infinite_outcomes(opened, heaps, count, ends, all, numbers, all - 1) == MISERE_NOT_ENDS, "no room");
 }
 
+static uint64_t weight(uint64_t heap) {
+    if (heap >= 9) return (heap - 5) / 2;
+    return heap == 3 || heap == 4 || heap == 7 || heap == 8;
+}
+
+/* Whether a heap of 0.26 rules others of this weight. */
+static int rules(uint64_t heap, uint64_t others) {
+    if (heap == 10) return !others;
+    if (heap < 9 || heap == 12) return 0;
+    return others <= (heap - (heap % 2 ? 9 : 14)) / 2;
+}
+
+/* Two heaps, one of them large, and some of 3. P are those of nim sum 0 that no heap rules, and those of 2 that one does; of
+ * weight 0 those of nim sum 1. */
+static void of_0_26(misere_infinite *opened) {
+    uint64_t heaps[100], kind = 7, length_of_code = 7;
+    uint8_t code[4];
+    uint32_t number;
+    misere_move move;
+    stop_unless(!misere_infinite_kind(opened, &kind) && kind == 0, "0.26 isn't a whole game");
+    stop_unless(!misere_infinite_code(opened, code, 4, &length_of_code) && length_of_code == 4, "0.26 has no code");
+    stop_unless(!memcmp(code, "0.26", 4), "0.26 has another code");
+    for (uint64_t large = 1; large < 2000000000000000; large = large * 5 / 4 + 1)
+        for (uint64_t heap = 1; heap < 20; heap++)
+            for (size_t threes = 0; threes < 40; threes++) {
+                uint64_t of_threes = threes, all = weight(large) + weight(heap) + of_threes;
+                uint64_t nim_sum = (large - 1) % 4 ^ (heap - 1) % 4 ^ (threes % 2 ? 2 : 0);
+                int ruled = rules(large, all - weight(large)) || rules(heap, all - weight(heap));
+                int lost = nim_sum == (!all ? 1u : ruled ? 2u : 0u);
+                size_t count = put(heaps, large, heap, 1, 3, threes);
+                stop_unless(!misere_infinite_outcome(opened, heaps, count, &number), "no outcome of 0.26");
+                stop_unless(number == (lost ? MISERE_P : MISERE_N), "another outcome of 0.26");
+                stop_unless(!misere_infinite_answer(opened, heaps, count, &move), "no move of 0.26");
+                stop_unless(lost == (move.kind == MISERE_LOST), "another move of 0.26");
+            }
+    uint64_t none[2] = {1, 0};
+    stop_unless(misere_infinite_outcome(opened, none, 2, &number) == MISERE_NOT_A_HEAP, "a heap of 0");
+    stop_unless(misere_infinite_describe(opened, MISERE_JSON, code, 4, &kind) == MISERE_NOT_DESCRIBED, "it is described");
+}
+
 /* Heaps that aren't any, and heaps of which the certificate doesn't speak; and owners that are closed. */
 static void refuse_heaps(misere_infinite *opened, uint64_t beyond) {
     uint64_t heaps[2] = {1, beyond}, none[2] = {beyond, 0};
@@ -128,5 +168,9 @@ int main(int argc, char **argv) {
     stop_unless(!misere_infinite_open(bytes, length, MISERE_LIMIT, &opened), "0.07 isn't opened");
     of_dawsons_kayles(&opened);
     refuse_heaps(&opened, 33);
+    take(argv[1], "0.26.mqw");
+    stop_unless(!misere_infinite_open(bytes, length, MISERE_LIMIT, &opened), "0.26 isn't opened");
+    of_0_26(&opened);
+    stop_unless(!misere_infinite_close(&opened), "0.26 isn't closed");
     return 0;
 }

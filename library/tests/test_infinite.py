@@ -1,22 +1,25 @@
-"""Infinite quotients: what is told of samples, beside a search of all plays and the families of docs/INFINITE.md."""
+"""Infinite quotients: what is told of samples, beside a search of all plays, the families of docs/INFINITE.md and the
+theorem of docs/WHOLE.md."""
 
 from __future__ import annotations
 
 import copy
+import functools
 import itertools
 import json
+import operator
 import pathlib
 import pickle
 import random
 import tempfile
 import threading
 import unittest
-from collections.abc import Callable
+from collections.abc import Callable, Sequence
 from typing import Any, NamedTuple, get_args
 
 import misere
 from compare import search_of
-from tests import infinite, quotient, raised, samples, top
+from tests import infinite, quotient, raised, samples, top, whole
 
 SMALL, THREADS = 200, 8
 
@@ -25,6 +28,27 @@ def outcome_of(twos: int, fives: int) -> str:
     """4 + j·2 + i·5, with j and i from 1 on, is P exactly if i - 3j is 4, 10, 16, .."""
     more = fives - 3 * twos
     return "P" if more >= 4 and more % 6 == 4 else "N"
+
+
+def weight_of(heap: int) -> int:
+    """That of a heap of 0.26."""
+    return (heap - 5) // 2 if heap >= 9 else int(heap in (3, 4, 7, 8))
+
+
+def reach_of(heap: int) -> int:
+    """How much the others may weigh that a heap of 0.26 rules, or -1 if it never does."""
+    if heap < 9 or heap == 12:
+        return -1
+    return 0 if heap == 10 else (heap - 9 if heap % 2 else heap - 14) // 2
+
+
+def outcome_of_26(heaps: Sequence[int]) -> str:
+    """By the theorem of 0.26, which is proved by hand."""
+    nim_sum, weight = functools.reduce(operator.xor, ((it - 1) % 4 for it in heaps), 0), sum(map(weight_of, heaps))
+    if not weight:
+        return "P" if nim_sum == 1 else "N"
+    rules = any(weight - weight_of(it) <= reach_of(it) for it in heaps)
+    return "P" if nim_sum == (2 if rules else 0) else "N"
 
 
 class Infinite(unittest.TestCase):
@@ -119,6 +143,46 @@ class Infinite(unittest.TestCase):
         self.assertEqual(wrong, [])
 
 
+class Whole(unittest.TestCase):
+    of = whole("0.26")
+
+    def test_it_says_that_it_speaks_of_all_heaps(self) -> None:
+        self.assertEqual((self.of.code, self.of.last_heap, self.of.without), ("0.26", None, ()))
+        self.assertEqual(repr(self.of), "<infinite misère quotient of 0.26: all heaps>")
+
+    def test_it_is_told_as_its_theorem_says(self) -> None:
+        chosen = random.Random(26)
+        for most in (8, 16, 40, 2000, 10**15, 10**18):
+            sizes = [[chosen.randint(1, most) for _ in range(chosen.randint(0, 7))] for _ in range(SMALL)]
+            positions = [it + [3] * chosen.randint(0, 9) for it in sizes]
+            outcomes = [outcome_of_26(it) for it in positions]
+            self.assertEqual(self.of.outcomes(positions), outcomes)
+            for heaps, outcome, answer in zip(positions, outcomes, self.of.answers(positions)):
+                ended = "ended" if not set(heaps) - {1} else "lost"
+                if isinstance(answer, str):
+                    self.assertEqual((answer, outcome), (ended, "N" if ended == "ended" else "P"), heaps)
+                    continue
+                left = [*heaps, *answer.left]
+                left.remove(answer.heap)
+                self.assertEqual((outcome, outcome_of_26(left)), ("N", "P"), (heaps, answer))
+
+    def test_small_positions_are_told_as_a_search_finds_them(self) -> None:
+        chosen = random.Random(734)
+        for code in ("0.26", "0.734", "4.7"):
+            search, of = search_of(code), whole(code)
+            positions = [[chosen.randint(1, 8) for _ in range(chosen.randint(0, 5))] for _ in range(SMALL)]
+            self.assertEqual(of.outcomes(positions), [search(it) for it in positions], code)
+
+    def test_heaps_are_as_large_as_numbers_go(self) -> None:
+        self.assertEqual(self.of.answer([10**15]), misere.Move(10**15, (10**15 - 1,)))
+        self.assertEqual(self.of.winning_move([10**15, 2]), None)
+
+    def test_it_is_a_value(self) -> None:
+        for other in (whole("0.26"), copy.copy(self.of), pickle.loads(pickle.dumps(self.of))):
+            self.assertEqual((other, other.outcome([10**15, 2])), (self.of, "P"))
+        self.assertIsNone(self.of._repr_html_())
+
+
 class Row(NamedTuple):
     name: str
     call: Callable[[], object]
@@ -149,6 +213,8 @@ ROWS = [
         23,
         "speaks of heaps to 34 without 33 alone, and not of 33",
     ),
+    Row("no heap of a whole game", lambda: Whole.of.outcome([10**18 + 1]), misere.NotAHeap, 10, "000001 isn't, at [0]"),
+    Row("no description", Whole.of.describe, misere.NotDescribed, 16, "is not described"),
     Row("no output", lambda: OF.describe(wrong("relations")), misere.NotInRange, 15, "description, latex, json, and"),
     Row("nothing for an output", lambda: OF.describe(wrong(None)), misere.NotInRange, 15, "None is none"),
     Row("no text", lambda: misere.check_infinite(b""), misere.Refused, 1, "the bytes spell no certificate"),
@@ -165,6 +231,20 @@ ROWS = [
         misere.Refused,
         1,
         "misere.check_infinite checks such a text",
+    ),
+    Row(
+        "one of a whole game",
+        lambda: misere.check(samples / "0.26.mqw"),
+        misere.Refused,
+        1,
+        "misere.check_infinite checks such a text",
+    ),
+    Row(
+        "another text of a whole game",
+        lambda: misere.check_infinite(Whole.of.certificate.replace(b"code 0.26", b"code 0.3")),
+        misere.Refused,
+        33,
+        "33 Undecided: the rule was not seen to hold",
     ),
     Row(
         "a file's name",
@@ -215,5 +295,9 @@ class Catalogues(unittest.TestCase):
     def test_a_folder_with_another_text_is_none(self) -> None:
         with tempfile.TemporaryDirectory() as folder:
             self.assertEqual(len(misere.InfiniteCatalogue(folder)), 0)
+            for code in ("0.26", "4.7"):
+                pathlib.Path(folder, f"{code}.mqw").write_bytes(whole(code).certificate)
+            games = misere.InfiniteCatalogue(folder)
+            self.assertEqual((set(games), games["0.26"], games["4.7", 0]), ({"0.26", "4.7"}, whole("0.26"), whole("4.7")))
             pathlib.Path(folder, "a.mqi").write_text("mqi 1\n")
             self.assertIsInstance(raised(lambda: misere.InfiniteCatalogue(folder)), misere.Refused)

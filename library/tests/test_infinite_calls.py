@@ -1,5 +1,6 @@
-"""The calls on infinite quotients as they are built: of 0.354 with the heaps 1 to 5. Others found its certificate, and
-refused the two that are near it; the outcomes are those of other programs, by a search through all plays."""
+"""The calls on infinite quotients as they are built: of 0.354 with the heaps 1 to 5, and of all heaps of 0.26. Others found
+the first one's certificate, and refused the two that are near it; its outcomes are those of other programs, by a search
+through all plays. Those of 0.26 are by its theorem, which docs/WHOLE.md proves by hand."""
 
 from __future__ import annotations
 
@@ -30,6 +31,9 @@ RIGHT = (samples / "0.354_heaps_5.mqi").read_bytes()
 WRONG, SHORT = (
     (samples / f"refused/{it}.mqi").read_bytes() for it in ("outcome_at_two_and_three", "ray_down_too_short")
 )
+# A text of a whole game, and one which says that heap 9 never rules
+WHOLE = (samples / "0.26.mqw").read_bytes()
+UNRULED = WHOLE.replace(b"leads 0 0 0 0 0 0 0 0 1", b"leads 0 0 0 0 0 0 0 0 0")
 
 
 class Check(NamedTuple):
@@ -45,6 +49,12 @@ CHECKS = [
     Check("P at 2 + 3", WRONG, LIMIT, 7),
     Check("a limit of 1", RIGHT, 1, 8),
     Check("a ray too short", SHORT, LIMIT, 34),
+    Check("of a whole game", WHOLE, LIMIT, 0),
+    Check("of a whole game, which has no limit", WHOLE, 1, 0),
+    Check("heap 9 never rules", UNRULED, LIMIT, 33),
+    Check("no end of a whole game", WHOLE[:-4], LIMIT, 1),
+    Check("another format of whole games", WHOLE.replace(b"mqw 1", b"mqw 2"), LIMIT, 1),
+    Check("that of a finite quotient", (samples / "0.33.mqc").read_bytes(), LIMIT, 1),
 ]
 
 
@@ -64,6 +74,23 @@ FAILURES = [
     Failure("a ray too short", SHORT, 4, 34, UNCOUNTED, [UNTOLD] * 4),
     Failure("at two heaps with room for one", WRONG, 1, 7, 2, [UNTOLD] * 4),
     Failure("at two heaps", WRONG, 4, 7, 2, [2, 3, UNTOLD, UNTOLD]),
+    Failure("heap 9 never rules", UNRULED, 4, 33, UNCOUNTED, [UNTOLD] * 4),
+]
+
+
+class Said(NamedTuple):
+    """A text, what its code is, and how far its heaps go: 0 of a whole game."""
+
+    text: bytes
+    code: bytes
+    kind: int
+
+
+SAID = [
+    Said(RIGHT, b"0.354", 5),
+    Said((samples / "0.07_heaps_34_without_33.mqi").read_bytes(), b"0.07", 34),
+    Said(WHOLE, b"0.26", 0),
+    Said((samples / "0.f3.mqw").read_bytes(), b"0.f3", 0),
 ]
 
 
@@ -115,6 +142,39 @@ MOVED = [
     Moved("lost", [2, 4, 5, 5, 5, 5, 5, 5, 5], (1, 0, 0, 0, 0)),
     Moved("ended", [], (0, 0, 0, 0, 0)),
 ]
+# Of 0.26: the nim sum is 3 and the great heap rules; it is 2; a heap 1 can't be moved
+GREAT = 10**15
+MOVED_WHOLE = [
+    Moved("the great heap rules", [GREAT], (2, GREAT, GREAT - 1, 0, 0)),
+    Moved("beside a heap 2", [GREAT, 2], (1, 0, 0, 0, 0)),
+    Moved("ended", [1], (0, 0, 0, 0, 0)),
+    Moved("of weight 0", [2], (1, 0, 0, 0, 0)),
+    Moved("of weight 1", [3], (2, 3, 2, 0, 0)),
+]
+
+
+class Ruled(NamedTuple):
+    """Heaps of 0.26, of which the first one is the heaviest; the nim sum, and whether it rules. P are those of nim sum 2
+    that it rules, and those of nim sum 0 that it doesn't."""
+
+    heaps: list[int]
+    nim_sum: int
+    rules: bool
+    outcome: int
+
+
+RULED = [
+    Ruled([16, 2], 2, True, 0),
+    Ruled([16, 2, 3, 3], 2, False, 1),
+    Ruled([16, 2, 3, 3, 3], 0, False, 0),
+    Ruled([15, 3], 0, True, 1),
+    Ruled([15, 3, 3], 2, True, 0),
+    Ruled([15, 3, 3, 3, 3], 2, False, 1),
+    Ruled([15, 3, 3, 3, 3, 3], 0, False, 0),
+    Ruled([GREAT + 1, 2, 2, 3, 3], 0, True, 1),
+    Ruled([GREAT + 3, 3, 3], 2, True, 0),
+    Ruled([GREAT + 4, 5, 6], 2, True, 0),
+]
 
 
 class Many(NamedTuple):
@@ -160,9 +220,9 @@ DESCRIBED = [
 ]
 
 
-def opened() -> Opened:
+def opened(certificate: bytes = RIGHT) -> Opened:
     owner = Opened()
-    if status := called("misere_infinite_open", RIGHT, LIMIT, owner):
+    if status := called("misere_infinite_open", certificate, LIMIT, owner):
         raise AssertionError(f"nothing was opened: {status}")
     return owner
 
@@ -206,6 +266,29 @@ class Opening(unittest.TestCase):
         self.assertEqual(outcome_of(other, [1]), (0, 0))
         self.assertEqual(called("misere_infinite_close", other), 0)
 
+    def test_each_tells_its_code_and_its_heaps(self) -> None:
+        told, count, kind = text(8), ctypes.c_uint64(UNCOUNTED), ctypes.c_uint64(UNCOUNTED)
+        self.assertEqual(called("misere_infinite_code", Opened(), told, count), 17)
+        self.assertEqual(called("misere_infinite_kind", Opened(), kind), 17)
+        self.assertEqual((count.value, kind.value, set(told)), (UNCOUNTED, UNCOUNTED, {UNTOLD}))
+        for row in SAID:
+            with self.subTest(row.code):
+                owner, told = opened(row.text), text(8)
+                self.assertEqual(called("misere_infinite_code", owner, front(told, 3), count), 14)
+                self.assertEqual((count.value, set(told)), (len(row.code), {UNTOLD}))
+                self.assertEqual(called("misere_infinite_code", owner, told, count), 0)
+                self.assertEqual(bytes(told), row.code.ljust(8, bytes([UNTOLD])))
+                self.assertEqual((called("misere_infinite_kind", owner, kind), kind.value), (0, row.kind))
+                self.assertEqual(called("misere_infinite_close", owner), 0)
+
+    def test_whole_games_are_not_described(self) -> None:
+        owner = opened(WHOLE)
+        for output, status in ((0, 16), (1, 16), (2, 15), (3, 16), (4, 15)):
+            told, count = text(64), ctypes.c_uint64(UNCOUNTED)
+            self.assertEqual(called("misere_infinite_describe", owner, output, told, count), status, output)
+            self.assertEqual((count.value, set(told)), (UNCOUNTED, {UNTOLD}), output)
+        self.assertEqual(called("misere_infinite_close", owner), 0)
+
     def test_infinite_quotients_are_described(self) -> None:
         told, count = text(4096), ctypes.c_uint64(UNCOUNTED)
         self.assertEqual(called("misere_infinite_describe", Opened(), 0, told, count), 17)
@@ -244,6 +327,26 @@ class Answering(unittest.TestCase):
         for row in MOVED:
             with self.subTest(row.name):
                 self.assertEqual(answer_of(owner, row.heaps), (0, row.told, sorted(row.heaps)))
+        self.assertEqual(called("misere_infinite_close", owner), 0)
+
+    def test_whole_games_are_told(self) -> None:
+        owner = opened(WHOLE)
+        for row in MOVED_WHOLE:
+            with self.subTest(row.name):
+                self.assertEqual(outcome_of(owner, row.heaps), (0, int(row.told[0] != 1)))
+                self.assertEqual(answer_of(owner, row.heaps), (0, row.told, sorted(row.heaps)))
+        for it in RULED:
+            self.assertEqual(outcome_of(owner, it.heaps), (0, it.outcome), it)
+        for heaps in ([0], [1, 10**18 + 1]):
+            self.assertEqual(outcome_of(owner, heaps), (10, UNTOLD))
+            self.assertEqual(answer_of(owner, heaps), (10, NO_MOVE, heaps))
+        told, made = numbers(len(RULED)), moves(len(RULED))
+        given = [heap for it in RULED for heap in it.heaps]
+        ends = [sum(len(it.heaps) for it in RULED[: at + 1]) for at in range(len(RULED))]
+        self.assertEqual(called("misere_infinite_outcomes", owner, words(given), words(ends), told), 0)
+        self.assertEqual(called("misere_infinite_answers", owner, words(given), words(ends), made), 0)
+        self.assertEqual(told_in(told), [it.outcome for it in RULED])
+        self.assertEqual([it.kind for it in made], [1 + it.outcome for it in RULED])
         self.assertEqual(called("misere_infinite_close", owner), 0)
 
     def test_many_positions_by_tracks_are_told(self) -> None:

@@ -3,18 +3,21 @@ ghost use Rattle.std.specs.List.Sorted.{IsNonDecreasing};
 ghost use Rattle.std.specs.Prelude.{◌≡◌, ◌≢◌, ◌≤◌, ◌<◌, ℕ, List, IsPermutation, length, take};
 ghost use Rattle.std.specs.declared.option.Option.TheVariants.{None, Some};
 ghost use Rattle.infinite_queries.specs.Asked.{AreNoAnswers, AreRefused, AreShown, FailsAt, IsNoAnswer, IsNoAnswerToMany, TellsAnswer, TellsOutcome};
-ghost use Rattle.infinite_texts.specs.Described.{IsOpenedText, IsOpenedUntold};
+ghost use Rattle.infinite_texts.specs.Described.{IsOpenedCode, IsOpenedText, IsOpenedUntold};
+ghost use Rattle.opened_infinite.specs.Texts.{kind_of};
 ghost use Rattle.told_answers.specs.Asked.{IsOpened, IsUnopened, IsUnshared};
 ghost use Rattle.told_answers.specs.Many.{TellAll};
 
-use infinite_queries::{answer, answers, check, close, failure, open, outcome, outcomes, share};
-use infinite_texts::describe;
+use infinite_queries::{
+    answer, answers, check, close, failure, kind, open, outcome, outcomes, share,
+};
+use infinite_texts::{code, describe};
 use opened_infinite::OpenedInfinite;
 use std::alloc::Global;
 use told_answers::MisereAnswer;
 
-/// Whether the bytes are an accepted certificate of an infinite quotient: 0, or the number of the
-/// refusal.
+/// Whether the bytes are an accepted text of an infinite quotient, with tracks or of a whole game: 0, or the
+/// number of the refusal.
 #[unsafe(no_mangle)]
 pub extern "C" fn misere_check_infinite(alloc: Global, bytes: &[u8], limit: u32) -> u32
     ensures yes { result ≡ 0 → AreShown bytes.now (λ k. Unit {0}) }
@@ -83,6 +86,43 @@ pub extern "C" fn misere_infinite_close(alloc: Global, opened: &mut OpenedInfini
     ensures no { result ≢ 0 → IsUnopened opened.old.handle.value result }
 {
     close(alloc, opened)
+}
+
+/// Tells of which heaps it speaks: 0 where of those of every size, and else the last one. Some before that
+/// may be left out.
+#[unsafe(no_mangle)]
+pub extern "C" fn misere_infinite_kind(
+    alloc: Global,
+    opened: &mut OpenedInfinite,
+    told: &mut u64,
+) -> u32
+    ensures yes { result ≡ 0 → IsOpened opened.old.handle.value (λ s. told.new ≡ kind_of s) }
+    ensures no { result ≢ 0 → IsUnopened opened.old.handle.value result }
+    ensures same { opened.new.handle.value ≡ opened.old.handle.value }
+    ensures stays { result ≢ 0 → told.new ≡ told.old }
+{
+    kind(alloc, opened, told)
+}
+
+/// Tells the code of what is opened, such as 0.26, and how many bytes it has; where there is no room for them,
+/// how many they are alone.
+#[unsafe(no_mangle)]
+pub extern "C" fn misere_infinite_code(
+    alloc: Global,
+    opened: &mut OpenedInfinite,
+    told: &mut [u8],
+    count: &mut u64,
+) -> u32
+    ensures yes { result ≡ 0 → IsOpenedCode opened.old.handle.value (take count.new told.new) }
+    ensures no { result ≢ 0 → result ≢ 14 → IsUnshared opened.old.handle.value result }
+    ensures same { opened.new.handle.value ≡ opened.old.handle.value }
+    ensures stays { result ≢ 0 → told.new ≡ told.old }
+    ensures room { result ≡ 14 → length told.old < count.new }
+    ensures counts { result ≡ 14 → (text : List ℕ)
+        × IsOpenedCode opened.old.handle.value text × (count.new ≡ length text) }
+    ensures untold { result ≢ 0 → result ≢ 14 → count.new ≡ count.old }
+{
+    code(alloc, opened, told, count)
 }
 
 /// Tells who wins the position of the heaps under misère play: 0 where the player who has just moved

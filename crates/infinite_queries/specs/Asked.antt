@@ -1,87 +1,119 @@
 -- What is told of bytes that show an infinite quotient, and of positions by one that is opened. This
 -- project's own.
-use Rattle.std.specs.Prelude.{◌≡◌, ◌⊎◌, ℕ, List, All, IsPermutation}
+use Rattle.std.specs.Prelude.{◌≡◌, ◌⊎◌, ◌++◌, ◌-◌, ℕ, List, All, IsPermutation, codes}
 use Rattle.std.specs.List.Sorted.{IsNonDecreasing}
 use Rattle.std.specs.declared.option.Option.{Option}
+use Rattle.misere_theory.specs.Games.{IsHeap, IsPosition}
 use Rattle.counted_claims.specs.Counted.{SpeaksOfHeap}
 use Rattle.tracked_claims.specs.Reads.{claim_in}
 use Rattle.tracked_text.specs.Said.{Said}
 use Rattle.tracked_text.specs.Spelling.{Spells}
-use Rattle.infinite_answers.specs.Answers.{Why, IsTrueOf, Outcome as Fails}
-use Rattle.infinite_answers.specs.Kept.{Kept, IsKeptOf}
+use Rattle.dominance_text.specs.Spelling.{SpellsDominance}
+use Rattle.infinite_answers.specs.Answers.{Why, IsTrueOf, Text, Undecided, Outcome as Fails}
+use Rattle.infinite_answers.specs.Kept.{IsKeptOf}
 use Rattle.infinite_answers.specs.Shown.{IsShown}
-use Rattle.infinite_player.specs.Plays.{SpeaksOf}
+use Rattle.whole_checker.specs.Solved.{IsRefusedWhole, IsSolved}
+use Rattle.opened_infinite.specs.Texts.{code_of}
+use Rattle.opened_infinite.specs.declared.text.AcceptedText.{AcceptedText}
+use Rattle.opened_infinite.specs.declared.text.AcceptedText.TheVariants.{Tracks, Whole}
 use Rattle.positions.specs.Positions.{IsSize}
 use Rattle.positions.specs.Outcomes.{HasOutcome}
 use Rattle.positions.specs.declared.outcome.Outcome.{Outcome}
-use Rattle.player.specs.Answers.{IsRightAnswer}
+use Rattle.player.specs.Answers.{IsRightAnswer, IsTriedAnswer}
 use Rattle.player.specs.declared.answering.Answer.{Answer}
 use Rattle.told_answers.specs.Numbers.{outcome_number, IsAnswerOf}
 use Rattle.told_answers.specs.Asked.{AreNoEnds, CutInto, IsNoPosition, IsOpened, IsUnopened}
 use Rattle.told_answers.specs.declared.numbers.MisereAnswer.{MisereAnswer}
 use Rattle.infinite_queries.specs.Numbers.{status_of}
 
--- The bytes spell a certificate that is right, and k is what is kept of it.
-abbrev pub IsShownBy : List ℕ → Kept → Type 0
-IsShownBy bytes k = (c : Said) × Spells bytes c × IsKeptOf k c × IsShown c
+-- ---- bytes
 
--- The bytes spell a certificate that is right, and the rest is true of what is kept of it.
-abbrev pub AreShown : List ℕ → (Kept → Type 0) → Type 0
-AreShown bytes says = (k : Kept) × IsShownBy bytes k × says k
+-- The bytes spell a text that is right, and this is what is kept of it.
+abbrev pub IsShownBy : List ℕ → AcceptedText → Type 0
+IsShownBy bytes (Tracks k) = (c : Said) × Spells bytes c × IsKeptOf k c × IsShown c
+IsShownBy bytes (Whole c) = SpellsDominance bytes c × IsSolved c
+
+-- The bytes spell a text that is right, and the rest is true of what is kept of it.
+abbrev pub AreShown : List ℕ → (AcceptedText → Type 0) → Type 0
+AreShown bytes says = (s : AcceptedText) × IsShownBy bytes s × says s
+
+-- The bytes begin with the first word of texts of whole games.
+abbrev pub BeginsWhole : List ℕ → Type 0
+BeginsWhole bytes = (rest : List ℕ) × (bytes ≡ codes "mqw " ++ rest)
+
+-- The refusal is true of the bytes. With Text they spell no text of either kind. With Undecided they spell one
+-- of one of them. Every other one is of a certificate with tracks.
+abbrev pub IsTrueOfEither : List ℕ → Why → Type 0
+IsTrueOfEither bytes Text = IsTrueOf bytes Text × IsRefusedWhole bytes Text
+IsTrueOfEither bytes Undecided = IsTrueOf bytes Undecided ⊎ IsRefusedWhole bytes Undecided
+IsTrueOfEither bytes why = IsTrueOf bytes why
 
 -- The status is the number of a refusal that is true of the bytes.
 abbrev pub AreRefused : List ℕ → ℕ → Type 0
-AreRefused bytes status = (why : Why) × (status ≡ status_of why) × IsTrueOf bytes why
+AreRefused bytes status = (why : Why) × (status ≡ status_of why) × IsTrueOfEither bytes why
 
 -- the bytes are refused, truly, since the rule of their code's game fails at this position
 abbrev pub FailsAt : List ℕ → List ℕ → Type 0
 FailsAt bytes X = (code : List ℕ) × IsTrueOf bytes (Fails code X)
 
--- The certificate speaks of the heap.
-abbrev pub IsSpokenOf : Kept → ℕ → Type 0
-IsSpokenOf k n = SpeaksOfHeap (claim_in k.claim) n
+-- ---- positions
 
--- the number of the outcome of the position of these heaps, of which the certificate speaks
-abbrev pub TellsOutcome : List ℕ → ℕ → Kept → Type 0
-TellsOutcome heaps n k =
-    SpeaksOf k heaps × ((o : Outcome) × (n ≡ outcome_number o) × HasOutcome k.claim.code heaps o)
+-- The text speaks of the heap: of each if it is of a whole game.
+abbrev pub IsSpokenOf : AcceptedText → ℕ → Type 0
+IsSpokenOf (Tracks k) = SpeaksOfHeap (claim_in k.claim)
+IsSpokenOf (Whole c) = IsHeap
+
+-- The text speaks of each heap of the position.
+abbrev pub SpeaksOf : AcceptedText → List ℕ → Type 0
+SpeaksOf s X = IsPosition (IsSpokenOf s) X
+
+-- The right answer in the position. A move is the first one that wins; by a text of a whole game the first of
+-- those that leave at most one heap from start on.
+abbrev pub IsAnswerIn : AcceptedText → List ℕ → Answer → Type 0
+IsAnswerIn (Tracks k) X a = IsRightAnswer k.claim.code X a
+IsAnswerIn (Whole c) X a = IsTriedAnswer c.code (λ _. c.start - 1) X a
+
+-- the number of the outcome of the position of these heaps, of which the text speaks
+abbrev pub TellsOutcome : List ℕ → ℕ → AcceptedText → Type 0
+TellsOutcome heaps n s =
+    SpeaksOf s heaps × ((o : Outcome) × (n ≡ outcome_number o) × HasOutcome (code_of s) heaps o)
 
 -- the numbers are those of the right answer in the position
-abbrev pub TellsRight : Kept → MisereAnswer → List ℕ → Type 0
-TellsRight k n X = (a : Answer) × IsAnswerOf a n × IsRightAnswer k.claim.code X a
+abbrev pub TellsRight : AcceptedText → MisereAnswer → List ℕ → Type 0
+TellsRight s n X = (a : Answer) × IsAnswerOf a n × IsAnswerIn s X a
 
--- the right answer in the position of these heaps, rising, of which the certificate speaks
-abbrev pub TellsAnswer : List ℕ → MisereAnswer → Kept → Type 0
-TellsAnswer heaps n k =
-    SpeaksOf k heaps
-    × ((X : List ℕ) × IsPermutation heaps X × IsNonDecreasing X × TellsRight k n X)
+-- the right answer in the position of these heaps, rising, of which the text speaks
+abbrev pub TellsAnswer : List ℕ → MisereAnswer → AcceptedText → Type 0
+TellsAnswer heaps n s =
+    SpeaksOf s heaps
+    × ((X : List ℕ) × IsPermutation heaps X × IsNonDecreasing X × TellsRight s n X)
 
--- These are heaps, and the certificate doesn't speak of them all.
-abbrev pub LeavesOut : List ℕ → Kept → Type 0
-LeavesOut heaps k = All IsSize heaps × (SpeaksOf k heaps → ⊥)
+-- These are heaps, and the text doesn't speak of them all.
+abbrev pub LeavesOut : List ℕ → AcceptedText → Type 0
+LeavesOut heaps s = All IsSize heaps × (SpeaksOf s heaps → ⊥)
 
--- Why nothing is told of a position by this certificate.
-abbrev pub IsUnanswered : Kept → List ℕ → ℕ → Type 0
-IsUnanswered k heaps status = IsNoPosition heaps status ⊎ ((status ≡ 23) × LeavesOut heaps k)
+-- Why nothing is told of a position by this text.
+abbrev pub IsUnanswered : AcceptedText → List ℕ → ℕ → Type 0
+IsUnanswered s heaps status = IsNoPosition heaps status ⊎ ((status ≡ 23) × LeavesOut heaps s)
 
 -- Why nothing is told of a position by what is opened.
-abbrev pub IsNoAnswer : Option Kept → List ℕ → ℕ → Type 0
+abbrev pub IsNoAnswer : Option AcceptedText → List ℕ → ℕ → Type 0
 IsNoAnswer opened heaps status =
-    IsUnopened opened status ⊎ IsOpened opened (λ k. IsUnanswered k heaps status)
+    IsUnopened opened status ⊎ IsOpened opened (λ s. IsUnanswered s heaps status)
 
--- Why nothing is told of the positions by this certificate: the ends don't cut the heaps into them, or
+-- Why nothing is told of the positions by this text: the ends don't cut the heaps into them, or
 -- they do, and nothing is told of the heaps.
-abbrev pub AreUnanswered : Kept → List ℕ → List ℕ → ℕ → ℕ → Type 0
-AreUnanswered k heaps ends room status =
-    AreNoEnds heaps ends room status ⊎ (CutInto heaps ends room × IsUnanswered k heaps status)
+abbrev pub AreUnanswered : AcceptedText → List ℕ → List ℕ → ℕ → ℕ → Type 0
+AreUnanswered s heaps ends room status =
+    AreNoEnds heaps ends room status ⊎ (CutInto heaps ends room × IsUnanswered s heaps status)
 
 -- Why nothing is told of the positions by what is opened.
-abbrev pub IsNoAnswerToMany : Option Kept → List ℕ → List ℕ → ℕ → ℕ → Type 0
+abbrev pub IsNoAnswerToMany : Option AcceptedText → List ℕ → List ℕ → ℕ → ℕ → Type 0
 IsNoAnswerToMany opened heaps ends room status =
-    IsUnopened opened status ⊎ IsOpened opened (λ k. AreUnanswered k heaps ends room status)
+    IsUnopened opened status ⊎ IsOpened opened (λ s. AreUnanswered s heaps ends room status)
 
 -- Why no answers are told of the positions by what is opened: as before, or memory was refused.
-abbrev pub AreNoAnswers : Option Kept → List ℕ → List ℕ → ℕ → ℕ → Type 0
+abbrev pub AreNoAnswers : Option AcceptedText → List ℕ → List ℕ → ℕ → ℕ → Type 0
 AreNoAnswers opened heaps ends room status =
     IsUnopened opened status
-    ⊎ IsOpened opened (λ k. AreUnanswered k heaps ends room status ⊎ (status ≡ 9))
+    ⊎ IsOpened opened (λ s. AreUnanswered s heaps ends room status ⊎ (status ≡ 9))

@@ -5,17 +5,17 @@ ghost use Rattle.positions.specs.Positions.{IsSize};
 ghost use Rattle.infinite_queries.specs.Asked.{AreUnanswered, IsSpokenOf, IsUnanswered, TellsAnswer, TellsOutcome};
 ghost use Rattle.told_answers.specs.Many.{AreEnds};
 
+use crate::kinds::{rising_answer, speaks, winner};
 use allocation::Memory;
-use infinite_answers::Infinite;
-use infinite_player::{answer, answer_at, outcome_at, speaks_of};
+use opened_infinite::AcceptedText;
 use positions::Position;
 use std::alloc::Global;
 use told_answers::{
     BEYOND, MisereAnswer, NOT_A_HEAP, NOT_ENDS, are_ends, are_sizes, number, position_of, told,
 };
 
-/// Whether the certificate speaks of the heaps; else why not.
-pub(crate) fn fit(shown: &Infinite, heaps: &[u64]) -> Result<(), u32>
+/// Whether the text speaks of the heaps; else why not.
+pub(crate) fn fit(shown: &AcceptedText, heaps: &[u64]) -> Result<(), u32>
     ensures sizes { OnOk result (All IsSize heaps.now) }
     ensures speaks { OnOk result (All (IsSpokenOf shown.now) heaps.now) }
     ensures no { IfErr result (λ s. s ≢ 0 × IsUnanswered shown.now heaps.now s) }
@@ -23,15 +23,20 @@ pub(crate) fn fit(shown: &Infinite, heaps: &[u64]) -> Result<(), u32>
     if !are_sizes(heaps) {
         return Err(NOT_A_HEAP);
     }
-    if !speaks_of(shown, heaps) {
+    if !speaks(shown, heaps) {
         return Err(BEYOND);
     }
     Ok(())
 }
 
-/// Whether the ends cut the heaps into as many positions as there is room for, and the certificate
+/// Whether the ends cut the heaps into as many positions as there is room for, and the text
 /// speaks of the heaps; else why not.
-pub(crate) fn all_fit(shown: &Infinite, heaps: &[u64], ends: &[u64], room: usize) -> Result<(), u32>
+pub(crate) fn all_fit(
+    shown: &AcceptedText,
+    heaps: &[u64],
+    ends: &[u64],
+    room: usize,
+) -> Result<(), u32>
     ensures sizes { OnOk result (All IsSize heaps.now) }
     ensures speaks { OnOk result (All (IsSpokenOf shown.now) heaps.now) }
     ensures ends { OnOk result (AreEnds (length heaps.now) ends.now) }
@@ -45,15 +50,15 @@ pub(crate) fn all_fit(shown: &Infinite, heaps: &[u64], ends: &[u64], room: usize
 }
 
 /// The outcome of the position of the heaps.
-pub(crate) fn outcome_of(shown: &Infinite, heaps: &[u64]) -> u32
+pub(crate) fn outcome_of(shown: &AcceptedText, heaps: &[u64]) -> u32
     requires { All (IsSpokenOf shown.now) heaps.now }
     ensures { TellsOutcome heaps.now result shown.now }
 {
-    number(outcome_at(shown, heaps))
+    number(winner(shown, heaps))
 }
 
 /// The outcome of the position of the heaps, or why there is none.
-pub(crate) fn outcome_in(shown: &Infinite, heaps: &[u64]) -> Result<u32, u32>
+pub(crate) fn outcome_in(shown: &AcceptedText, heaps: &[u64]) -> Result<u32, u32>
     ensures yes { IfOk result (λ n. TellsOutcome heaps.now n shown.now) }
     ensures no { IfErr result (λ s. s ≢ 0 × IsUnanswered shown.now heaps.now s) }
 {
@@ -62,19 +67,18 @@ pub(crate) fn outcome_in(shown: &Infinite, heaps: &[u64]) -> Result<u32, u32>
 }
 
 /// The answer in a position, which is that of the heaps.
-fn answer_to(shown: &Infinite, heaps: &[u64], position: &Position) -> MisereAnswer
+fn answer_to(shown: &AcceptedText, heaps: &[u64], position: &Position) -> MisereAnswer
     requires speaks { All (IsSpokenOf shown.now) heaps.now }
     requires same { IsPermutation heaps.now position.now }
     ensures { TellsAnswer heaps.now result shown.now }
 {
-    position.heaps();
-    told(answer(shown, position))
+    told(rising_answer(shown, position.heaps()))
 }
 
 /// The answer in the position of the heaps.
 pub(crate) fn answer_of(
     alloc: Global,
-    shown: &Infinite,
+    shown: &AcceptedText,
     heaps: &[u64],
 ) -> Result<MisereAnswer, Memory>
     requires sizes { All IsSize heaps.now }
@@ -86,18 +90,18 @@ pub(crate) fn answer_of(
 }
 
 /// The answer in the position of the heaps, which stand rising afterwards.
-fn sorted_answer(shown: &Infinite, heaps: &mut [u64]) -> MisereAnswer
+fn sorted_answer(shown: &AcceptedText, heaps: &mut [u64]) -> MisereAnswer
     requires { All (IsSpokenOf shown.now) heaps.old }
     ensures told { TellsAnswer heaps.old result shown.now }
     ensures same { IsPermutation heaps.old heaps.new }
     ensures rising { IsNonDecreasing heaps.new }
 {
     heaps.sort_unstable();
-    told(answer_at(shown, heaps))
+    told(rising_answer(shown, heaps))
 }
 
 /// The answer in the position of the heaps, which stand rising afterwards; or why there is none.
-pub(crate) fn answer_in(shown: &Infinite, heaps: &mut [u64]) -> Result<MisereAnswer, u32>
+pub(crate) fn answer_in(shown: &AcceptedText, heaps: &mut [u64]) -> Result<MisereAnswer, u32>
     ensures yes { IfOk result (λ n. TellsAnswer heaps.old n shown.now) }
     ensures same { OnOk result (IsPermutation heaps.old heaps.new) }
     ensures rising { OnOk result (IsNonDecreasing heaps.new) }

@@ -1,14 +1,16 @@
-//! What is asked of the bytes of a certificate.
-ghost use Rattle.std.specs.Prelude.{◌≡◌, ◌≢◌, ◌≤◌, ◌<◌, IfOk, IfErr, ℕ, List, length, take};
+//! What is asked of the bytes of a text.
+ghost use Rattle.std.specs.Prelude.{◌≡◌, ◌≢◌, ◌≤◌, ◌<◌, ◌↔◌, IfOk, IfErr, IsTrue, ℕ, List, length, take};
 ghost use Rattle.infinite_answers.specs.Refusals.{refused};
 ghost use Rattle.infinite_queries.specs.Numbers.{status_of};
-ghost use Rattle.infinite_queries.specs.Asked.{AreRefused, AreShown, FailsAt, IsShownBy};
+ghost use Rattle.infinite_queries.specs.Asked.{AreRefused, AreShown, BeginsWhole, FailsAt, IsShownBy, IsTrueOfEither};
 
-use infinite_answers::{Infinite, InfiniteRefusal};
+use infinite_answers::InfiniteRefusal;
 use infinite_checker::check_infinite;
+use opened_infinite::AcceptedText;
 use positions::Position;
 use std::alloc::Global;
 use told_answers::{DONE, OUTCOME, put};
+use whole_checker::check_whole;
 
 /// The number of a refusal.
 fn status(refusal: &InfiniteRefusal) -> u32
@@ -18,25 +20,70 @@ fn status(refusal: &InfiniteRefusal) -> u32
     refusal.number() as u32
 }
 
-/// What the bytes show, or the number of the refusal.
-pub(crate) fn shown(alloc: Global, bytes: &[u8], limit: u32) -> Result<Infinite, u32>
+/// Whether the bytes begin as texts of whole games do.
+fn begins_whole(bytes: &[u8]) -> bool
+    ensures { IsTrue result ↔ BeginsWhole bytes.now }
+{
+    bytes.starts_with(b"mqw ")
+}
+
+/// What bytes that do are accepted as, or why they are refused.
+fn whole(alloc: Global, bytes: &[u8]) -> Result<AcceptedText, InfiniteRefusal>
+    requires { BeginsWhole bytes.now }
+    ensures yes { IfOk result (IsShownBy bytes.now) }
+    ensures no { IfErr result (λ r. IsTrueOfEither bytes.now (refused r)) }
+{
+    match check_whole(alloc, bytes) {
+        Ok(game) => Ok(AcceptedText::Whole(game)),
+        Err(refusal) => Err(refusal),
+    }
+}
+
+/// What bytes that don't are accepted as, or why they are refused.
+fn tracks(alloc: Global, bytes: &[u8], limit: u32) -> Result<AcceptedText, InfiniteRefusal>
+    requires { BeginsWhole bytes.now → ⊥ }
+    ensures yes { IfOk result (IsShownBy bytes.now) }
+    ensures no { IfErr result (λ r. IsTrueOfEither bytes.now (refused r)) }
+{
+    match check_infinite(alloc, bytes, limit) {
+        Ok(shown) => Ok(AcceptedText::Tracks(shown)),
+        Err(refusal) => Err(refusal),
+    }
+}
+
+/// What the bytes are accepted as, or why they are refused.
+fn accepted(alloc: Global, bytes: &[u8], limit: u32) -> Result<AcceptedText, InfiniteRefusal>
+    ensures yes { IfOk result (IsShownBy bytes.now) }
+    ensures no { IfErr result (λ r. IsTrueOfEither bytes.now (refused r)) }
+{
+    if begins_whole(bytes) {
+        whole(alloc, bytes)
+    } else {
+        tracks(alloc, bytes, limit)
+    }
+}
+
+/// What the bytes are accepted as, or the number of the refusal.
+pub(crate) fn shown(alloc: Global, bytes: &[u8], limit: u32) -> Result<AcceptedText, u32>
     ensures yes { IfOk result (IsShownBy bytes.now) }
     ensures no { IfErr result (λ s. s ≢ 0 × AreRefused bytes.now s) }
 {
-    match check_infinite(alloc, bytes, limit) {
+    match accepted(alloc, bytes, limit) {
         Ok(shown) => Ok(shown),
         Err(refusal) => Err(status(&refusal)),
     }
 }
 
-/// Whether the bytes are an accepted certificate of an infinite quotient: 0, or the number of the
-/// refusal.
+/// Whether the bytes are an accepted text of an infinite quotient: 0, or the number of the refusal.
 pub fn check(alloc: Global, bytes: &[u8], limit: u32) -> u32
     ensures yes { result ≡ 0 → AreShown bytes.now (λ k. Unit {0}) }
     ensures no { result ≢ 0 → AreRefused bytes.now result }
 {
     match shown(alloc, bytes, limit) {
-        Ok(_) => DONE,
+        Ok(shown) => {
+            drop(shown);
+            DONE
+        }
         Err(status) => status,
     }
 }
@@ -64,8 +111,11 @@ pub fn failure(alloc: Global, bytes: &[u8], limit: u32, told: &mut [u64], count:
     ensures no_room { length told.old < count.new → told.new ≡ told.old }
     ensures stays { result ≢ 7 → told.new ≡ told.old × count.new ≡ count.old }
 {
-    match check_infinite(alloc, bytes, limit) {
-        Ok(_) => DONE,
+    match accepted(alloc, bytes, limit) {
+        Ok(shown) => {
+            drop(shown);
+            DONE
+        }
         Err(InfiniteRefusal::Outcome(_, position)) => {
             tell(bytes, &position, told, count);
             OUTCOME

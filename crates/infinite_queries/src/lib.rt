@@ -1,15 +1,16 @@
 //! What is asked of an infinite quotient, in numbers, as it is asked from C: by the bytes of its
-//! certificate, or once these were opened. The static library `infinite_library` hands it out.
+//! text, with tracks or of a whole game, or once these were opened. The static library `infinite_library` hands it out.
 //!
 //! What is opened was checked once, and keeps the checker's theorem. The caller owns all other memory.
 #![tactic(auto)]
 
 mod asking;
 mod bytes;
+mod kinds;
 mod many;
 mod opening;
 mod queries;
 
 pub use bytes::{check, failure};
 pub use opening::{close, open, share};
-pub use queries::{answer, answers, outcome, outcomes};
+pub use queries::{answer, answers, kind, outcome, outcomes};

@@ -6,12 +6,12 @@ ghost use Rattle.told_answers.specs.Many.{AreEnds, TellAll};
 
 use crate::asking::{all_fit, answer_of, outcome_of};
 use allocation::Memory;
-use infinite_answers::Infinite;
+use opened_infinite::AcceptedText;
 use std::alloc::Global;
 use told_answers::{DONE, MEMORY, MisereAnswer, heaps_at};
 
 /// Tells the outcome of each position.
-fn fill_outcomes(shown: &Infinite, heaps: &[u64], ends: &[u64], told: &mut [u32])
+fn fill_outcomes(shown: &AcceptedText, heaps: &[u64], ends: &[u64], told: &mut [u32])
     requires speaks { All (IsSpokenOf shown.now) heaps.now }
     requires ends { AreEnds (length heaps.now) ends.now }
     requires room { length told.old ≡ length ends.now }
@@ -23,7 +23,12 @@ fn fill_outcomes(shown: &Infinite, heaps: &[u64], ends: &[u64], told: &mut [u32]
 }
 
 /// Tells the outcome of each position; else why not.
-pub(crate) fn outcomes_in(shown: &Infinite, heaps: &[u64], ends: &[u64], told: &mut [u32]) -> u32
+pub(crate) fn outcomes_in(
+    shown: &AcceptedText,
+    heaps: &[u64],
+    ends: &[u64],
+    told: &mut [u32],
+) -> u32
     ensures yes { result ≡ 0 → TellAll TellsOutcome heaps.now ends.now told.new shown.now }
     ensures no { result ≢ 0 → AreUnanswered shown.now heaps.now ends.now (length told.old) result }
     ensures stays { result ≢ 0 → told.new ≡ told.old }
@@ -40,7 +45,7 @@ pub(crate) fn outcomes_in(shown: &Infinite, heaps: &[u64], ends: &[u64], told: &
 /// The answer in each position.
 fn all_answers(
     alloc: Global,
-    shown: &Infinite,
+    shown: &AcceptedText,
     heaps: &[u64],
     ends: &[u64],
 ) -> Result<Vec<MisereAnswer>, Memory>
@@ -59,7 +64,7 @@ fn all_answers(
 /// The answer in each position, or why there is none.
 pub(crate) fn answers_in(
     alloc: Global,
-    shown: &Infinite,
+    shown: &AcceptedText,
     heaps: &[u64],
     ends: &[u64],
     room: usize,

@@ -6,13 +6,12 @@ ghost use Rattle.told_answers.specs.Asked.{IsOpened, IsUnopened, IsUnshared};
 
 use crate::bytes::shown;
 use allocation::Memory;
-use infinite_answers::Infinite;
-use opened_infinite::{InfiniteQuotient, OpenedInfinite};
+use opened_infinite::{AcceptedText, InfiniteQuotient, OpenedInfinite};
 use std::alloc::Global;
 use told_answers::{DONE, MEMORY, NOT_OPEN};
 
-/// The first owner of the certificate, in a box.
-fn boxed(alloc: Global, shown: Infinite) -> Result<Box<InfiniteQuotient>, Memory>
+/// The first owner of the text, in a box.
+fn boxed(alloc: Global, shown: AcceptedText) -> Result<Box<InfiniteQuotient>, Memory>
     ensures { IfOk result (λ b. b.value ≡ shown) }
 {
     let quotient = InfiniteQuotient::new(alloc, shown)?;

@@ -2,14 +2,32 @@
 ghost use Rattle.std.specs.List.Sorted.{IsNonDecreasing};
 ghost use Rattle.std.specs.Prelude.{◌≡◌, ◌≢◌, IfOk, IfErr, OnOk, OnErr, IsPermutation, length};
 ghost use Rattle.infinite_queries.specs.Asked.{AreNoAnswers, IsNoAnswer, IsNoAnswerToMany, TellsAnswer, TellsOutcome};
-ghost use Rattle.told_answers.specs.Asked.{IsOpened};
+ghost use Rattle.opened_infinite.specs.Texts.{kind_of};
+ghost use Rattle.told_answers.specs.Asked.{IsOpened, IsUnopened};
 ghost use Rattle.told_answers.specs.Many.{TellAll};
 
 use crate::asking::{answer_in, outcome_in};
+use crate::kinds::kind_of;
 use crate::many::{answers_in, outcomes_in};
 use opened_infinite::OpenedInfinite;
 use std::alloc::Global;
 use told_answers::{DONE, MisereAnswer, NOT_OPEN};
+
+/// Tells of which heaps it speaks: 0 where of those of every size, and else the last one. Some before that
+/// may be left out.
+pub fn kind(alloc: Global, opened: &mut OpenedInfinite, told: &mut u64) -> u32
+    ensures yes { result ≡ 0 → IsOpened opened.old.handle.value (λ s. told.new ≡ kind_of s) }
+    ensures no { result ≢ 0 → IsUnopened opened.old.handle.value result }
+    ensures same { opened.new.handle.value ≡ opened.old.handle.value }
+    ensures stays { result ≢ 0 → told.new ≡ told.old }
+{
+    let Some(quotient) = opened.take(alloc) else {
+        return NOT_OPEN;
+    };
+    *told = kind_of(quotient.shown());
+    opened.put(alloc, quotient);
+    DONE
+}
 
 /// The outcome of the position of the heaps, by what is opened.
 fn outcome_by(alloc: Global, opened: &mut OpenedInfinite, heaps: &[u64]) -> Result<u32, u32>

@@ -1,10 +1,13 @@
 -- What is told of an infinite quotient that is opened, in a text. This project's own.
 use Rattle.std.specs.Prelude.{◌≡◌, ◌⊎◌, ◌≤◌, ℕ, List}
 use Rattle.std.specs.declared.option.Option.{Option}
-use Rattle.infinite_answers.specs.Kept.{Kept}
 use Rattle.infinite_descriptions.specs.Described.{IsDescription}
 use Rattle.infinite_descriptions.specs.declared.describing.Output.{Output}
 use Rattle.infinite_descriptions.specs.declared.describing.Output.TheVariants.{Plain, Latex, Json}
+use Rattle.octal_code.specs.Text.{code_text}
+use Rattle.opened_infinite.specs.Texts.{code_of}
+use Rattle.opened_infinite.specs.declared.text.AcceptedText.{AcceptedText}
+use Rattle.opened_infinite.specs.declared.text.AcceptedText.TheVariants.{Tracks, Whole}
 use Rattle.told_answers.specs.Asked.{IsOpened, IsUnopened}
 
 -- the number of an output: 0 for readers, 1 for LaTeX, 3 for JSON
@@ -13,22 +16,32 @@ IsOutput number Plain = number ≡ 0
 IsOutput number Latex = number ≡ 1
 IsOutput number Json = number ≡ 3
 
--- the text describes the certificate in the output of this number
-abbrev pub IsTextFor : ℕ → Kept → List ℕ → Type 0
-IsTextFor number k text = (output : Output) × IsOutput number output × IsDescription output k text
+-- the text describes the certificate with tracks in the output of this number
+abbrev pub IsTextFor : ℕ → AcceptedText → List ℕ → Type 0
+IsTextFor number (Tracks k) text = (output : Output) × IsOutput number output × IsDescription output k text
+IsTextFor number (Whole c) text = ⊥
 
 -- an infinite quotient is opened, and the text is what is asked for of it
-abbrev pub IsOpenedText : Option Kept → ℕ → List ℕ → Type 0
-IsOpenedText opened number text = IsOpened opened (λ k. IsTextFor number k text)
+abbrev pub IsOpenedText : Option AcceptedText → ℕ → List ℕ → Type 0
+IsOpenedText opened number text = IsOpened opened (λ s. IsTextFor number s text)
 
--- why no text of an infinite quotient is told: there is no such output, or there is one, and memory was
--- refused
-abbrev pub IsUntoldOf : ℕ → ℕ → Type 0
-IsUntoldOf number status =
+-- it is of a whole game
+abbrev pub IsWhole : AcceptedText → Type 0
+IsWhole (Tracks k) = ⊥
+IsWhole (Whole c) = Unit {0}
+
+-- why no text of an infinite quotient is told: there is no such output; or there is one, and it is of a whole
+-- game, or memory was refused
+abbrev pub IsUntoldOf : ℕ → AcceptedText → ℕ → Type 0
+IsUntoldOf number s status =
     ((status ≡ 15) × ((number ≡ 2) ⊎ (4 ≤ number)))
-    ⊎ ((status ≡ 9) × ((output : Output) × IsOutput number output))
+    ⊎ ((((status ≡ 16) × IsWhole s) ⊎ (status ≡ 9)) × ((output : Output) × IsOutput number output))
 
 -- Why no text is told: nothing is opened; or something is, and its text isn't told.
-abbrev pub IsOpenedUntold : Option Kept → ℕ → ℕ → Type 0
+abbrev pub IsOpenedUntold : Option AcceptedText → ℕ → ℕ → Type 0
 IsOpenedUntold opened number status =
-    IsUnopened opened status ⊎ IsOpened opened (λ k. IsUntoldOf number status)
+    IsUnopened opened status ⊎ IsOpened opened (λ s. IsUntoldOf number s status)
+
+-- an infinite quotient is opened, and the text is its code
+abbrev pub IsOpenedCode : Option AcceptedText → List ℕ → Type 0
+IsOpenedCode opened text = IsOpened opened (λ s. text ≡ code_text (code_of s))

@@ -1,12 +1,19 @@
-//! The description of an infinite quotient that was opened.
+//! The description of an infinite quotient that was opened, and its code.
 ghost use Rattle.std.specs.Prelude.{◌≡◌, ◌≢◌, ◌<◌, ◌≤◌, ◌⊎◌, ℕ, List, None, IfSome, IfOk, IfErr, length, take};
-ghost use Rattle.infinite_texts.specs.Described.{IsOpenedText, IsOpenedUntold, IsOutput, IsTextFor, IsUntoldOf};
+ghost use Rattle.std.specs.String.{string_bytes};
+ghost use Rattle.infinite_texts.specs.Described.{IsOpenedCode, IsOpenedText, IsOpenedUntold, IsOutput, IsTextFor, IsUntoldOf};
+ghost use Rattle.octal_code.specs.Text.{code_text};
+ghost use Rattle.opened_infinite.specs.Texts.{code_of};
+ghost use Rattle.told_answers.specs.Asked.{IsUnshared};
 
-use infinite_answers::Infinite;
+use allocation::Memory;
 use infinite_descriptions::{Output, described};
-use opened_infinite::OpenedInfinite;
+use opened_infinite::{AcceptedText, OpenedInfinite};
 use std::alloc::Global;
 use told_answers::{DONE, MEMORY, NO_ROOM, NOT_IN_RANGE, NOT_OPEN};
+
+/// A whole game has no description.
+const NOT_DESCRIBED: u32 = 16;
 
 /// The output of this number.
 fn output_at(output: u32) -> Option<Output>
@@ -22,15 +29,18 @@ fn output_at(output: u32) -> Option<Output>
 }
 
 /// The text that is asked for of the quotient; or the status.
-fn text_in(alloc: Global, shown: &Infinite, output: u32) -> Result<Vec<u8>, u32>
+fn text_in(alloc: Global, shown: &AcceptedText, output: u32) -> Result<Vec<u8>, u32>
     ensures told { IfOk result (λ t. IsTextFor output shown.now t.items) }
     ensures no { IfErr result (λ s. s ≢ 0 × s ≢ 14) }
-    ensures why { IfErr result (IsUntoldOf output) }
+    ensures why { IfErr result (IsUntoldOf output shown.now) }
 {
     let Some(output) = output_at(output) else {
         return Err(NOT_IN_RANGE);
     };
-    match described(alloc, shown, output) {
+    let AcceptedText::Tracks(tracks) = shown else {
+        return Err(NOT_DESCRIBED);
+    };
+    match described(alloc, tracks, output) {
         Ok(text) => Ok(text),
         Err(_) => Err(MEMORY),
     }
@@ -87,6 +97,52 @@ pub fn describe(
 {
     match text_by(alloc, opened, output) {
         Ok(text) => hand_over(&text, told, count),
+        Err(status) => status,
+    }
+}
+
+/// The code of the game, as a text.
+fn code_in(alloc: Global, shown: &AcceptedText) -> Result<String, Memory>
+    ensures { IfOk result (λ t. string_bytes t ≡ code_text (code_of shown.now)) }
+{
+    match shown {
+        AcceptedText::Tracks(tracks) => tracks.code().text(alloc),
+        AcceptedText::Whole(game) => game.code().text(alloc),
+    }
+}
+
+/// The code of what is opened, as a text; or the status.
+fn code_by(alloc: Global, opened: &mut OpenedInfinite) -> Result<String, u32>
+    ensures told { IfOk result (λ t. IsOpenedCode opened.old.handle.value (string_bytes t)) }
+    ensures no { IfErr result (λ s. s ≢ 0 × s ≢ 14) }
+    ensures why { IfErr result (IsUnshared opened.old.handle.value) }
+    ensures same { opened.new.handle.value ≡ opened.old.handle.value }
+{
+    let Some(quotient) = opened.take(alloc) else {
+        return Err(NOT_OPEN);
+    };
+    let text = code_in(alloc, quotient.shown());
+    opened.put(alloc, quotient);
+    match text {
+        Ok(text) => Ok(text),
+        Err(Memory) => Err(MEMORY),
+    }
+}
+
+/// Tells the code of what is opened, such as 0.26, and how many bytes it has; where there is no room for them,
+/// how many they are alone.
+pub fn code(alloc: Global, opened: &mut OpenedInfinite, told: &mut [u8], count: &mut u64) -> u32
+    ensures yes { result ≡ 0 → IsOpenedCode opened.old.handle.value (take count.new told.new) }
+    ensures no { result ≢ 0 → result ≢ 14 → IsUnshared opened.old.handle.value result }
+    ensures same { opened.new.handle.value ≡ opened.old.handle.value }
+    ensures stays { result ≢ 0 → told.new ≡ told.old }
+    ensures room { result ≡ 14 → length told.old < count.new }
+    ensures counts { result ≡ 14 → (text : List ℕ)
+        × IsOpenedCode opened.old.handle.value text × (count.new ≡ length text) }
+    ensures untold { result ≢ 0 → result ≢ 14 → count.new ≡ count.old }
+{
+    match code_by(alloc, opened) {
+        Ok(text) => hand_over(text.as_bytes(), told, count),
         Err(status) => status,
     }
 }

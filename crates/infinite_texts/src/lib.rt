@@ -1,6 +1,6 @@
-//! The description of an infinite quotient that was opened, as it is asked from C.
+//! The description of an infinite quotient that was opened, and its code, as they are asked from C.
 #![tactic(auto)]
 
 mod describing;
 
-pub use describing::describe;
+pub use describing::{code, describe};

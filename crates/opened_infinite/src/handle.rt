@@ -3,9 +3,9 @@ ghost use Rattle.std.specs.Prelude.{◌≡◌};
 ghost use Rattle.std.specs.declared.option.Option.{Option};
 ghost use Rattle.std.specs.declared.option.Option.TheVariants.{None, Some};
 ghost use Rattle.std.specs.Coded.{coded_option};
-ghost use Rattle.infinite_answers.specs.Kept.{Kept};
 ghost use Rattle.owners.specs.Handing.{handle_owns};
 ghost use Rattle.opened_infinite.specs.contracts.infinite.InfiniteQuotient.{the_row as quotient_row};
+ghost use Rattle.opened_infinite.specs.declared.text.AcceptedText.{AcceptedText};
 
 use crate::infinite::InfiniteQuotient;
 use owners::Loose;
@@ -14,7 +14,7 @@ use std::marker::Model;
 use std::ptr::null_mut;
 
 /// A box with a quotient, or none, as a pointer that goes out to C and comes back. In a contract its
-/// `value` is the certificate.
+/// `value` is the text.
 ///
 /// It can't be dropped, so that no box is forgotten: what has one goes `into_box`, and what has none
 /// is `spent`.
@@ -22,7 +22,7 @@ use std::ptr::null_mut;
 pub struct InfiniteHandle {
     at: *mut u8,
     alloc: Global,
-    pub ghost value: { Option Kept } by { coded_option quotient_row.coded },
+    pub ghost value: { Option AcceptedText } by { coded_option quotient_row.coded },
 }
 
 impl Model for InfiniteHandle {
@@ -49,7 +49,7 @@ impl InfiniteHandle {
 
     /// The box of a handle that has one.
     pub fn into_box(self) -> Box<InfiniteQuotient>
-        requires { (k : Kept) × (self.value ≡ Some k) }
+        requires { (k : AcceptedText) × (self.value ≡ Some k) }
         ensures { self.value ≡ Some result.value }
     {
         self.into_loose().into_box()
@@ -73,7 +73,7 @@ impl InfiniteHandle {
     }
 
     fn into_loose(self) -> Loose<InfiniteQuotient, Global>
-        requires { (k : Kept) × (self.value ≡ Some k) }
+        requires { (k : AcceptedText) × (self.value ≡ Some k) }
         ensures { self.value ≡ Some result.value }
     {
         let InfiniteHandle { at, alloc } = self;

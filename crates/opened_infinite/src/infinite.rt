@@ -1,43 +1,43 @@
-//! One owner of an accepted certificate with tracks.
+//! One owner of an accepted text of an infinite quotient.
 ghost use Rattle.std.specs.Prelude.{◌≡◌, IfOk};
 
+use crate::text::AcceptedText;
 use allocation::Memory;
-use infinite_answers::Infinite;
 use std::alloc::Global;
 use std::marker::Model;
 use std::sync::Arc;
 
-/// One owner of an accepted certificate with tracks. The last that is dropped frees it.
+/// One owner of an accepted text. The last that is dropped frees it.
 #[derive(Drop)]
 pub struct InfiniteQuotient {
-    shown: Arc<Infinite>,
+    shown: Arc<AcceptedText>,
 }
 
 impl Model for InfiniteQuotient {
-    ghost use Rattle.infinite_answers.specs.Kept.{Kept};
+    ghost use Rattle.opened_infinite.specs.declared.text.AcceptedText.{AcceptedText};
 
-    ghost Value = { Kept };
+    ghost Value = { AcceptedText };
 
     ghost view = { λ q. q.shown.value };
 }
 
 impl InfiniteQuotient {
-    /// The first owner of a certificate.
-    pub fn new(alloc: Global, shown: Infinite) -> Result<InfiniteQuotient, Memory>
+    /// The first owner of a text.
+    pub fn new(alloc: Global, shown: AcceptedText) -> Result<InfiniteQuotient, Memory>
         ensures { IfOk result (λ q. q ≡ shown) }
     {
         let shown = Arc::new(alloc, shown)?;
         Ok(InfiniteQuotient { shown })
     }
 
-    /// The certificate.
-    pub fn shown(&self) -> &Infinite
+    /// The text.
+    pub fn shown(&self) -> &AcceptedText
         ensures { result.now ≡ self.now }
     {
         &self.shown
     }
 
-    /// One more owner of the same certificate.
+    /// One more owner of the same text.
     pub fn shared(&self) -> Result<InfiniteQuotient, Memory>
         ensures { IfOk result (λ q. q ≡ self.now) }
     {

@@ -9,8 +9,8 @@ use crate::infinite::InfiniteQuotient;
 use std::alloc::Global;
 use std::mem;
 
-/// An infinite quotient that was opened, or none. In a contract its `handle.value` is what is kept of the
-/// certificate, if there is one.
+/// An infinite quotient that was opened, or none. In a contract its `handle.value` is what is kept of its
+/// text, if there is one.
 #[repr(C)]
 pub struct OpenedInfinite {
     /// 1, or 0 where nothing is opened.

@@ -140,6 +140,8 @@ unsafe extern "C" {
     pub fn misere_infinite_open(bytes: *const u8, length: usize, limit: u32, told: &mut Opened) -> u32;
     pub fn misere_infinite_share(opened: &mut Opened, told: &mut Opened) -> u32;
     pub fn misere_infinite_close(opened: &mut Opened) -> u32;
+    pub fn misere_infinite_kind(opened: &mut Opened, told: &mut u64) -> u32;
+    pub fn misere_infinite_code(opened: &mut Opened, told: *mut u8, room: usize, count: &mut u64) -> u32;
     pub fn misere_infinite_outcome(opened: &mut Opened, heaps: *const u64, count: usize, told: &mut u32) -> u32;
     pub fn misere_infinite_answer(opened: &mut Opened, heaps: *mut u64, count: usize, told: &mut Told) -> u32;
     pub fn misere_infinite_outcomes(

@@ -1,12 +1,11 @@
 use Rattle.std.proofs.Common.{inr, refl, arith}
 use Rattle.std.proofs.lemmas.List.Elements.{All-from_recursion}
-use Rattle.infinite_player.specs.Plays.{SpeaksOf}
-use Rattle.infinite_queries.specs.Asked.{IsSpokenOf}
+use Rattle.infinite_queries.specs.Asked.{IsSpokenOf, SpeaksOf}
 use Rattle.infinite_queries.proofs.asking.fit.Goals as goal
 
-pub returns-then-not-speaks_of-clause-no : goal.returns-then-not-speaks_of-clause-no
-returns-then-not-speaks_of-clause-no c =
-    let no : SpeaksOf c.args.shown.now c.args.heaps.now → ⊥ = λ speaks. (let t = c.speaks_of.ensures.1 speaks in let f = c.if-not-speaks_of.true in cc) in
+pub returns-then-not-speaks-clause-no : goal.returns-then-not-speaks-clause-no
+returns-then-not-speaks-clause-no c =
+    let no : SpeaksOf c.args.shown.now c.args.heaps.now → ⊥ = λ speaks. (let t = c.speaks.ensures.1 speaks in let f = c.if-not-speaks.true in cc) in
     let sizes = c.are_sizes.ensures.0 c.if-not-are_sizes.false in
     (λ e. absurd (omega (arith, e)), inr (refl, (sizes, no)))
 
@@ -16,4 +15,4 @@ returns-clause-sizes c = c.are_sizes.ensures.0 c.if-not-are_sizes.false
 pub returns-clause-speaks : goal.returns-clause-speaks
 returns-clause-speaks c =
     All-from_recursion (IsSpokenOf c.args.shown.now) c.args.heaps.now
-    (c.speaks_of.ensures.0 c.if-not-speaks_of.false)
+    (c.speaks.ensures.0 c.if-not-speaks.false)

@@ -3,15 +3,15 @@ use Rattle.std.proofs.lemmas.List.Sorted.{All-permutation, IsNonDecreasingBy-fro
 use Rattle.infinite_queries.specs.Asked.{IsSpokenOf}
 use Rattle.infinite_queries.proofs.asking.sorted_answer.Goals as goal
 
-pub answer_at-requires-clause-fits : goal.answer_at-requires-clause-fits
-answer_at-requires-clause-fits c =
+pub rising_answer-requires-clause-speaks : goal.rising_answer-requires-clause-speaks
+rising_answer-requires-clause-speaks c =
     let heap = IsSpokenOf c.args.shown.now in
     let X = c.sort_unstable.new.self in
     recursion_from_All heap X
     (All-permutation heap c.args.heaps.now X c.sort_unstable.ensures.permutation c.requires)
 
-pub answer_at-requires-clause-rising : goal.answer_at-requires-clause-rising
-answer_at-requires-clause-rising c =
+pub rising_answer-requires-clause-rising : goal.rising_answer-requires-clause-rising
+rising_answer-requires-clause-rising c =
     IsNonDecreasingBy-from_sort (λ x. x) _ c.sort_unstable.ensures.sorted
 
 pub returns-clause-told : goal.returns-clause-told
@@ -22,7 +22,7 @@ returns-clause-told c =
         c.sort_unstable.new.self,
         c.sort_unstable.ensures.permutation,
         rising,
-        (c.answer_at.result, c.told.ensures, c.answer_at.ensures),
+        (c.rising_answer.result, c.told.ensures, c.rising_answer.ensures),
       ),
     )
 

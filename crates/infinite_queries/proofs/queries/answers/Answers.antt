@@ -1,5 +1,5 @@
 use Rattle.std.proofs.Common.{◌≡◌, List, sym, subst}
-use Rattle.infinite_answers.specs.Kept.{Kept}
+use Rattle.opened_infinite.specs.declared.text.AcceptedText.{AcceptedText}
 use Rattle.infinite_queries.specs.Asked.{TellsAnswer}
 use Rattle.told_answers.specs.Many.{TellAll}
 use Rattle.told_answers.specs.declared.numbers.MisereAnswer.{MisereAnswer}
@@ -18,6 +18,6 @@ returns-in-Ok-clause-yes c =
       C,
       c.in-Some.ensures.taken,
       subst (λ (told : List MisereAnswer). TellAll TellsAnswer X ends told C) (sym copied)
-          (subst (λ (d : Kept). TellAll TellsAnswer X ends c.in-Ok.made.items d) same
+          (subst (λ (d : AcceptedText). TellAll TellsAnswer X ends c.in-Ok.made.items d) same
           c.in-Ok.ensures.yes),
     )

@@ -1,5 +1,5 @@
 use Rattle.std.proofs.Common.{◌≡◌, subst}
-use Rattle.infinite_answers.specs.Kept.{Kept}
+use Rattle.opened_infinite.specs.declared.text.AcceptedText.{AcceptedText}
 use Rattle.infinite_queries.specs.Asked.{TellsOutcome}
 use Rattle.told_answers.specs.Many.{TellAll}
 use Rattle.infinite_queries.proofs.queries.outcomes.Goals as goal
@@ -12,6 +12,6 @@ returns-clause-yes c =
     λ e. (
       C,
       c.in-Some.ensures.taken,
-      subst (λ (d : Kept). TellAll TellsOutcome c.args.heaps.now c.args.ends.now c.outcomes_in-status.new.told d)
+      subst (λ (d : AcceptedText). TellAll TellsOutcome c.args.heaps.now c.args.ends.now c.outcomes_in-status.new.told d)
           same (c.outcomes_in-status.ensures.yes e),
     )

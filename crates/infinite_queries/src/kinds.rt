@@ -1,0 +1,56 @@
+//! What is asked of an accepted text, of whichever kind it is.
+ghost use Rattle.std.specs.Prelude.{◌≡◌, ◌↔◌, All, IsTrue};
+ghost use Rattle.std.specs.List.Sorted.{IsNonDecreasing};
+ghost use Rattle.opened_infinite.specs.Texts.{code_of, kind_of};
+ghost use Rattle.positions.specs.Outcomes.{HasOutcome};
+ghost use Rattle.positions.specs.Positions.{IsSize};
+ghost use Rattle.infinite_queries.specs.Asked.{IsAnswerIn, SpeaksOf};
+
+use infinite_player::{answer_at, outcome_at, speaks_of, whole_answer_at, whole_outcome_at};
+use opened_infinite::AcceptedText;
+use player::Answer;
+use positions::Outcome;
+
+/// Whether the text speaks of each of these heaps, which stand in any order.
+pub(crate) fn speaks(shown: &AcceptedText, heaps: &[u64]) -> bool
+    requires { All IsSize heaps.now }
+    ensures { IsTrue result ↔ SpeaksOf shown.now heaps.now }
+{
+    match shown {
+        AcceptedText::Tracks(tracks) => speaks_of(tracks, heaps),
+        AcceptedText::Whole(_) => true,
+    }
+}
+
+/// Who wins from the position of these heaps under misère play. It takes no memory.
+pub(crate) fn winner(shown: &AcceptedText, heaps: &[u64]) -> Outcome
+    requires { SpeaksOf shown.now heaps.now }
+    ensures { HasOutcome (code_of shown.now) heaps.now result }
+{
+    match shown {
+        AcceptedText::Tracks(tracks) => outcome_at(tracks, heaps),
+        AcceptedText::Whole(game) => whole_outcome_at(game, heaps),
+    }
+}
+
+/// The answer in the position of these heaps, which stand rising. It takes no memory.
+pub(crate) fn rising_answer(shown: &AcceptedText, heaps: &[u64]) -> Answer
+    requires speaks { SpeaksOf shown.now heaps.now }
+    requires rising { IsNonDecreasing heaps.now }
+    ensures { IsAnswerIn shown.now heaps.now result }
+{
+    match shown {
+        AcceptedText::Tracks(tracks) => answer_at(tracks, heaps),
+        AcceptedText::Whole(game) => whole_answer_at(game, heaps),
+    }
+}
+
+/// 0 if the text is of the whole game, and else how far its heaps go.
+pub(crate) fn kind_of(shown: &AcceptedText) -> u64
+    ensures { result ≡ kind_of shown.now }
+{
+    match shown {
+        AcceptedText::Tracks(tracks) => tracks.last() as u64,
+        AcceptedText::Whole(_) => 0,
+    }
+}
