@@ -1,7 +1,6 @@
 // What is asked of a certificate: by the calls for finite quotients, or by those for infinite ones.
 
 import {isInfinite} from "./infinite/fields.js";
-import {isUnread} from "./refusals.js";
 import {isWhole} from "./whole/fields.js";
 
 /** @typedef {import("../calls.js").Answer} Answer */
@@ -23,23 +22,11 @@ export class Oracle {
   }
 
   /**
-   * Whether the module can be asked. (One may lack the calls for infinite quotients, or read no texts of whole games.)
+   * Whether the module can be asked. (One may lack the calls for infinite quotients.)
    * @returns {Promise<boolean>}
    */
   async isAble() {
-    if (!this.#isInfinite) return true;
-    if (!(await this.#prover.ask("knowsInfinite")).answer) return false;
-    return !isWhole(this.#bytes) || this.#isRead();
-  }
-
-  /** Whether the module reads a text that spells something, as far as the page sees. */
-  async #isRead() {
-    try {
-      await this.check();
-      return true;
-    } catch (failure) {
-      return !isUnread(failure, this.#bytes);
-    }
+    return !this.#isInfinite || (await this.#prover.ask("knowsInfinite")).answer;
   }
 
   /**

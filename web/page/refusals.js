@@ -86,15 +86,6 @@ function messageOf({message, heaps}) {
 }
 
 /**
- * Whether a text was refused that spells something, as this page reads it.
- * @param {unknown} failure
- * @param {Uint8Array} bytes
- */
-export function isUnread(failure, bytes) {
-  return failure instanceof Failure && failure.status === TEXT && !faultOfText(lettersOf(bytes));
-}
-
-/**
  * Which line of a text is at fault that spells no certificate.
  * @param {unknown} failure
  * @param {Uint8Array} bytes

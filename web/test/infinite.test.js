@@ -5,9 +5,10 @@ import test from "node:test";
 import {Failed, Misere, Refused} from "../calls.js";
 import {memberOf} from "../page/infinite/family.js";
 import {infiniteOf, infiniteVerdict} from "../page/infinite/fields.js";
+import {isSaidP, isWhole, tripleOf, wholeOf, wholeVerdict} from "../page/whole/fields.js";
 
 import {bytesOfModule, newMisere} from "./module.js";
-import {fileOf, infinite, numbersFrom, printed, refusedInfinite, sample, told} from "./setup.js";
+import {fileOf, infinite, numbersFrom, printed, refusedInfinite, sample, told, wholeTexts} from "./setup.js";
 
 const misere = newMisere();
 const skip = misere.knowsInfinite() ? false : "the module has no calls for infinite quotients";
@@ -24,7 +25,8 @@ function verdictOf(bytes) {
     const [number, name] = stop.message.split(" ");
     return [`no ${number} ${name}`, ...stop.heaps ? [`rule fails at ${stop.heaps.join(" ") || "0"}`] : []];
   }
-  return [infiniteVerdict(infiniteOf(new TextDecoder().decode(bytes)))];
+  const text = new TextDecoder().decode(bytes);
+  return [isWhole(bytes) ? wholeVerdict(wholeOf(text)) : infiniteVerdict(infiniteOf(text))];
 }
 
 /** @param {Uint8Array} bytes */
@@ -68,6 +70,36 @@ test("positions: outcome and winning move", {skip}, (t) => {
     count += positions.length;
   }
   t.diagnostic(`${count} positions`);
+});
+
+/** What is changed in the text of 0.26. */
+const CHANGED = [["", ""], ["code 0.26", "code 0.3"], ["odd 0 1", "odd 1 1"], ["leads", "lead"], ["mqw 1", "mqw 2"]];
+
+test("whole games: verdict and number", {skip}, () => {
+  const text = sample("0.26.mqw").toString();
+  const texts = [...wholeTexts.map(([, it]) => it), ...CHANGED.map(([was, is]) => text.replace(was, is))];
+  for (const it of texts.map((it) => new TextEncoder().encode(it))) assert.deepEqual(verdictOf(it), verdictPrinted(it));
+});
+
+test("whole games: outcomes as the three numbers of each heap say, and moves to lost positions", {skip}, () => {
+  const random = numbersFrom(26);
+  for (const [code, text] of wholeTexts) {
+    const bytes = new TextEncoder().encode(text), whole = wholeOf(text);
+    const sizes =
+        [8n, 40n, 10n ** 15n].map((most) => () => 1n + BigInt(random(2 ** 31)) * BigInt(random(2 ** 21)) % most);
+    const positions = sizes.flatMap((size) => Array.from({length: 40}, () => Array.from({length: random(9)}, size)));
+    const said = positions.map((heaps) => isSaidP(tripleOf(whole, heaps)));
+    assert.deepEqual([...misere.infiniteOutcomes(bytes, positions)], said.map((it) => Number(!it)), code);
+    misere.infiniteAnswers(bytes, positions).forEach((answer, at) => {
+      if (answer.kind !== "wins") return assert.equal(answer.kind === "lost", said[at], `${code} ${positions[at]}`);
+      const others = [...positions[at]];
+      others.splice(others.indexOf(answer.heap), 1);
+      assert.ok(isSaidP(tripleOf(whole, [...others, ...answer.left])), `${code} ${positions[at]}`);
+    });
+  }
+  const positions = [[3], [10n ** 12n], [2, 10n ** 12n]];
+  const lines = misere.infiniteAnswers(sample("0.26.mqw"), positions).map(lineOf);
+  assert.deepEqual(lines, ["wins 3 -> 2", "wins 1000000000000 -> 999999999999", "lost"]);
 });
 
 test("the family of 0.354 is the one that docs/INFINITE.md tells", {skip}, () => {

@@ -21,9 +21,6 @@ import {QUOTIENT, wholeTheorem} from "./theorem.js";
 /** @typedef {import("../main.js").Page} Page */
 /** @typedef {import("./fields.js").Whole} Whole */
 
-const NOT_CHECKED = "Not checked here: this page’s module reads no texts of whole games. The program checks it, by " +
-    "misere infinite.";
-
 /**
  * Shows the verdict on a text, and behind a yes what it says; nothing more once another verdict has its place.
  * @param {Page} page
@@ -37,7 +34,6 @@ export async function presentWhole(page, root, bytes, isGame = false) {
   const oracle = new Oracle(page.prover, bytes);
   const whole = wholeOf(new TextDecoder().decode(bytes));
   try {
-    if (!(await oracle.isAble())) return showUnchecked(root, verdict, whole);
     const time = await oracle.check();
     if (verdict.parentNode !== root) return;
     verdict.classList.add("yes");
@@ -47,20 +43,6 @@ export async function presentWhole(page, root, bytes, isGame = false) {
     verdict.classList.add(isNo(failure) ? "no" : "none");
     fill(verdict, toldOfCertificate(failure, () => whole.code), lineTold(failure, bytes));
   }
-}
-
-/**
- * What the text says, if nothing can be asked. No verdict.
- * @param {HTMLElement} root
- * @param {HTMLElement} verdict
- * @param {Whole} whole
- */
-function showUnchecked(root, verdict, whole) {
-  verdict.classList.add("none");
-  fill(verdict, NOT_CHECKED);
-  root.append(
-      make("div", {class: "partial", id: "theorem"}, "It claims: ", wholeTheorem(whole.code)), ruleSection(whole.code),
-      tripleSection(whole), wholeSection(whole));
 }
 
 /**

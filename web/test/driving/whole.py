@@ -13,16 +13,14 @@ def drive(it, program, steps):
     theorem = it.said("#theorem", "is known")
     steps.expect("its outcomes stand first on a game's page", "if and only if" in theorem, theorem[:80])
     told = it.said("#judged", "Checked here", "Not checked", "Refused")
-    steps.expect("the text is judged there", not told.startswith("Refused"), told)
+    steps.expect("the text is checked there", told.startswith("Checked here"), told)
     it.go(f"#game={NAME}")
     it.wait(lambda: it.text("h1") == "The game 0.26, as a whole")
-    said = it.said("#verdict", "infinite 0", "Not checked", "no ", "No verdict")
+    said = it.said("#verdict", "infinite 0", "no ", "No verdict")
     rows = it.texts("#triples tbody tr")
     steps.expect("each heap has its three numbers", len(rows) == 16 and rows[14] == "15even54", rows[14:15])
     it.picture("whole")
     tails(it, steps)
-    if said.startswith("Not checked"):
-        return steps.expect("a module that doesn't read it is no verdict", "reads no texts" in said, said)
     steps.expect("the verdict", said.startswith(program.verdict(program.certificate(FILE))), said)
     it.go(f"#game={NAME}")
     for position, is_lost in POSITIONS.items():
