@@ -7,4 +7,6 @@ mod kept_checker_tests;
 #[cfg(test)]
 mod lowered_labels_tests;
 #[cfg(test)]
+mod presented_tables_tests;
+#[cfg(test)]
 mod told_labels_tests;

@@ -1,0 +1,12 @@
+mod Below
+mod Walked
+mod First
+mod Cycled
+mod Words
+mod Taking
+mod Orders
+mod HeapWords
+mod Places
+mod Claimed
+mod Filled
+mod Mapped

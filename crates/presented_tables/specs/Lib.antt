@@ -1,0 +1,6 @@
+pub mod Elements
+pub mod Tested
+pub mod Beside
+pub mod Numbers
+pub mod Rows
+pub mod Faults
