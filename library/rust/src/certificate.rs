@@ -40,11 +40,11 @@ impl Certificate {
     }
 }
 
-/// Which heaps a certificate of an infinite quotient speaks of: those up to the last one, but for some.
+/// Which heaps a text of an infinite quotient speaks of: those up to the last one, but for some; or all, and then there is no last one.
 #[derive(Debug)]
 pub(crate) struct Part {
     pub code: String,
-    pub last_heap: u64,
+    pub last_heap: Option<u64>,
     /// Rising.
     pub without: Vec<u64>,
 }
@@ -82,13 +82,17 @@ pub(crate) fn read(bytes: &[u8]) -> Option<Certificate> {
     })
 }
 
-/// What a text of an infinite quotient says of its heaps; none of a text that is no certificate. A heap that is left out is a minus in
-/// the line of their elements.
+/// What a text of an infinite quotient says of its heaps; none of a text that is no certificate. One of a whole game speaks of all. A
+/// heap that a certificate with tracks leaves out is a minus in the line of their elements.
 pub(crate) fn read_part(bytes: &[u8]) -> Option<Part> {
     let text = std::str::from_utf8(bytes).ok()?;
+    let code = lines(text, "code").next()?.collect();
+    if text.starts_with("mqw ") {
+        return Some(Part { code, last_heap: None, without: Vec::new() });
+    }
     Some(Part {
-        code: lines(text, "code").next()?.collect(),
-        last_heap: lines(text, "heaps").next()?.next()?.parse().ok()?,
+        code,
+        last_heap: Some(lines(text, "heaps").next()?.next()?.parse().ok()?),
         without: (1..).zip(lines(text, "phi").next()?).filter(|(_, element)| *element == "-").map(|(heap, _)| heap).collect(),
     })
 }

@@ -20,8 +20,8 @@ pub enum InfiniteOutput {
     Json = 3,
 }
 
-/// A certified infinite misère quotient: the outcomes of all positions of some heaps of a game, which no finite quotient predicts. It is
-/// made by a check alone, and doesn't change.
+/// A certified infinite misère quotient: the outcomes of all positions of some heaps of a game, or of all its positions, which no finite
+/// quotient predicts. It is made by a check alone, and doesn't change.
 ///
 /// A game may have several certificates, with other heaps or monoids. They never contradict each other. What is said of threads, clones
 /// and drops of a [`Quotient`](crate::Quotient) holds of these.
@@ -33,8 +33,8 @@ pub struct InfiniteQuotient {
 }
 
 impl InfiniteQuotient {
-    /// The infinite quotient that the certificate is of, which begins with `mqi 1`. [`LIMIT`] is the limit where nobody asks for more or
-    /// less.
+    /// The infinite quotient that the certificate is of, which begins with `mqi 1`, or with `mqw 1` if it is of a whole game. [`LIMIT`]
+    /// is the limit where nobody asks for more or less.
     pub fn check(bytes: impl AsRef<[u8]>, limit: u32) -> Result<InfiniteQuotient, Refusal> {
         let bytes: Arc<[u8]> = bytes.as_ref().into();
         let opened = Opened::check(&bytes, limit)?;
@@ -57,8 +57,8 @@ impl InfiniteQuotient {
         &self.part.code
     }
 
-    /// The last heap of which it speaks.
-    pub fn last_heap(&self) -> u64 {
+    /// The last heap of which it speaks; none of a whole game, as it speaks of all.
+    pub fn last_heap(&self) -> Option<u64> {
         self.part.last_heap
     }
 
@@ -67,7 +67,8 @@ impl InfiniteQuotient {
         &self.part.without
     }
 
-    /// Its monoid, tracks and regions, and the positions that show that the quotient is infinite, with their outcomes.
+    /// Its monoid, tracks and regions, and the positions that show that the quotient is infinite, with their outcomes. That of a whole game
+    /// is refused, with 16.
     pub fn describe(&self, output: InfiniteOutput) -> Result<String, Refusal> {
         let text = told_by(USUAL, |told, count| self.opened.describe(output as u32, told, count))?;
         Ok(String::from_utf8_lossy(&text).into_owned())

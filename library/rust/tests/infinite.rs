@@ -23,12 +23,34 @@ fn heaps(numbers: &[(u64, usize)]) -> Vec<u64> {
 #[test]
 fn it_says_of_which_heaps_it_speaks() {
     let whole = infinite("0.354_heaps_5.mqi");
-    assert_eq!((whole.code(), whole.last_heap(), whole.without()), ("0.354", 5, [].as_slice()));
+    assert_eq!((whole.code(), whole.last_heap(), whole.without()), ("0.354", Some(5), [].as_slice()));
     let part = infinite("0.07_heaps_34_without_33.mqi");
-    assert_eq!((part.code(), part.last_heap(), part.without()), ("0.07", 34, [33].as_slice()));
+    assert_eq!((part.code(), part.last_heap(), part.without()), ("0.07", Some(34), [33].as_slice()));
     for (heap, told) in [(0, Refusal::NOT_A_HEAP), (33, Refusal::BEYOND), (35, Refusal::BEYOND)] {
         assert_eq!((part.outcome(&[1, heap]), part.answer(&[1, heap])), (Err(told), Err(told)), "heap {heap}");
     }
+}
+
+/// By the theorem of docs/WHOLE.md a heap 10^15, whose nim value is 3, rules what weighs no more than its reach.
+#[test]
+fn a_whole_game_is_told_of_any_heaps() {
+    let quotient = infinite("0.26.mqw");
+    assert_eq!((quotient.code(), quotient.last_heap(), quotient.without()), ("0.26", None, [].as_slice()));
+    let great = 1_000_000_000_000_000;
+    let rows: [(&[u64], Answer); 5] = [
+        (&[great], Answer::Wins { heap: great, left: vec![great - 1] }),
+        (&[great, 2], Answer::Lost),
+        (&[16, 2, 3, 3, 3], Answer::Lost),
+        (&[3], Answer::Wins { heap: 3, left: vec![2] }),
+        (&[1], Answer::Ended),
+    ];
+    for (heaps, answer) in rows {
+        let outcome = if answer == Answer::Lost { Outcome::P } else { Outcome::N };
+        assert_eq!((quotient.outcome(heaps), quotient.answer(heaps)), (Ok(outcome), Ok(answer)), "{heaps:?}");
+    }
+    assert_eq!(quotient.outcome(&[0]), Err(Refusal::NOT_A_HEAP));
+    assert_eq!(quotient.describe(InfiniteOutput::Json), Err(Refusal(16)));
+    assert_eq!(Quotient::check(sample("0.26.mqw"), LIMIT).err(), Some(Refusal::TEXT));
 }
 
 #[test]
