@@ -218,6 +218,11 @@ all-tested c e s t within words least part idle ended are r =
       numbered = λ F. (
         numbering c are.converges within words F e are s t r h,
         numbered c are.converges within words F e are s t r h,
+        λ x el. place-is e.words x (listed c e are x el),
+        λ w _. refl,
       );
+      counts = (r.classes, r.labels);
+      part = part;
+      labels = λ F n _. label-in c are.converges within words F n;
       tested = λ F. tested c are.converges within words F e are s t r h;
     }

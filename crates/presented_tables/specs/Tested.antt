@@ -37,7 +37,8 @@ abbrev pub HasWord : PresentedSaid → ℕ → Type 0
 HasWord c n = has_word c n ≡ true
 
 -- All that is tested of a presentation: the elements are all there; products are in the rows of images; the tables
--- are those of the claim; and the labels have all that they must, but that no position is bad beside nothing.
+-- are those of the claim, an element's class and a label's number being its own; no option leaves the heaps, and each
+-- has an element; and the labels have all that they must, but that no position is bad beside nothing.
 pub record AreTestedTables (c : PresentedSaid) (t : PresentedTables) : Type 0 where
   pub relations : AreIn (length c.letters) c.relations
   pub elements : AreElements c t.elements
@@ -47,6 +48,12 @@ pub record AreTestedTables (c : PresentedSaid) (t : PresentedTables) : Type 0 wh
       → Takes c t.elements (element t.elements w) x (entry t.tables.images (length t.elements.words) w x)
   pub numbered : (forms : NormalForms LETTERS c.relations)
       → (b : Numbering (List ℕ)) × AreTablesOf (IsElement c) (HasWord c) c.code (claim_of c forms) b t.tables
+      × ((x : List ℕ) → IsElement c x → element t.elements (b.class x) ≡ x)
+      × ((w : ℕ) → w < t.tables.labels → b.label w ≡ element t.elements w)
+  pub counts : (t.tables.classes ≡ length t.elements.words) × (t.tables.labels ≡ length t.elements.words)
+  pub part : IsPart (HasWord c) c.code
+  pub labels : (forms : NormalForms LETTERS c.relations) (n : ℕ) → HasWord c n
+      → IsElement c ((claim_of c forms).label n)
   pub tested : (forms : NormalForms LETTERS c.relations)
       → AreNeverBad (HasWord c) c.code (claim_of c forms)
       → AreTestedLabels (IsElement c) (HasWord c) c.code (claim_of c forms)
