@@ -1,0 +1,73 @@
+//! What is said of bytes that begin as a presentation does.
+ghost use Rattle.std.specs.Prelude.{◌≡◌, ◌↔◌, ◌++◌, ℕ, List, codes, IfOk, IsTrue};
+ghost use Rattle.std.specs.String.{string_bytes};
+ghost use Rattle.presented_command.specs.Told.{BeginsPresented, IsRefusalLine, TellsPresented, presented_line};
+ghost use Rattle.verdict_texts.specs.Lines.{no_line};
+
+use allocation::Memory;
+use certificate_text::LONGEST_TEXT;
+use command_results::Said;
+use presented_checker::{PresentedQuotient, PresentedRefusal, check_presented};
+use std::alloc::Global;
+
+/// The line of a presentation that is right.
+fn yes_text(alloc: Global, quotient: &PresentedQuotient) -> Result<String, Memory>
+    ensures { IfOk result (λ t. string_bytes t ≡ presented_line quotient.now) }
+{
+    let code = quotient.code().text(alloc)?;
+    let (order, heaps) = (quotient.order(), quotient.heaps());
+    let text = format!(in alloc; "yes {code} order {order} heaps {heaps}\n")?;
+    Ok(text)
+}
+
+/// The line of a no.
+fn no_text(alloc: Global, number: u8, name: &str) -> Result<String, Memory>
+    ensures { IfOk result (λ t. string_bytes t ≡ no_line number name.now) }
+{
+    let text = format!(in alloc; "no {number} {name}\n")?;
+    Ok(text)
+}
+
+/// The line of a refusal. Want of memory has none, and is handed on.
+fn refusal_text(alloc: Global, refusal: PresentedRefusal) -> Result<String, Memory>
+    ensures { IfOk result (λ t. IsRefusalLine refusal (string_bytes t)) }
+{
+    match refusal {
+        PresentedRefusal::Text => no_text(alloc, 1, "Text"),
+        PresentedRefusal::Law => no_text(alloc, 2, "Law"),
+        PresentedRefusal::Limit => no_text(alloc, 8, "Limit"),
+        PresentedRefusal::Memory => Err(Memory),
+        PresentedRefusal::Part(_) => no_text(alloc, 31, "Part"),
+        PresentedRefusal::Undecided => no_text(alloc, 33, "Undecided"),
+    }
+}
+
+/// Whether the bytes begin with the first word of such texts.
+fn has_first_word(bytes: &[u8]) -> bool
+    ensures { IsTrue result ↔ ((rest : List ℕ) × (bytes.now ≡ codes "mqp " ++ rest)) }
+{
+    bytes.starts_with(b"mqp ")
+}
+
+/// Whether the bytes begin as presentations do, and aren't too many.
+pub fn begins_presented(bytes: &[u8]) -> bool
+    ensures { IsTrue result ↔ BeginsPresented bytes.now }
+{
+    bytes.len() <= LONGEST_TEXT && has_first_word(bytes)
+}
+
+/// What is said of the bytes: the line of the quotient, or that of a no.
+pub fn presented_said(alloc: Global, bytes: &[u8]) -> Result<Said, Memory>
+    ensures { IfOk result (λ s. TellsPresented bytes.now s.text.items s.succeeds) }
+{
+    match check_presented(alloc, bytes) {
+        Ok(quotient) => {
+            let text = yes_text(alloc, &quotient)?;
+            Ok(Said::done(text))
+        }
+        Err(refusal) => {
+            let text = refusal_text(alloc, refusal)?;
+            Ok(Said::no(text.into_bytes()))
+        }
+    }
+}

@@ -1,0 +1,6 @@
+//! What is said of a presentation of a misère quotient.
+#![tactic(auto)]
+
+mod checking;
+
+pub use checking::{begins_presented, presented_said};
