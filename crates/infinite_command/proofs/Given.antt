@@ -7,10 +7,13 @@ use Rattle.tracked_text.specs.Said.{Said}
 use Rattle.tracked_text.specs.Spelling.{Spells}
 use Rattle.check_command.specs.Checks.{IsFrontOf}
 use Rattle.infinite_answers.specs.Answers.{IsTrueOf, Why, Text, Law, Order, Outcome, Limit, Memory, Part, Idle, Undecided, Ray}
-use Rattle.infinite_answers.specs.Kept.{Kept}
-use Rattle.infinite_command.specs.Checks.{ChecksEither, FindsInfinite, JudgesInfinite, TellsFound}
+use Rattle.given_quotients.specs.Told.{BeginsWhole, IsRefusalText, TellsWhole}
+use Rattle.given_quotients.specs.Told.TellsWhole.{Solved}
+use Rattle.infinite_command.specs.Checks.{ChecksEither, FindsInfinite, JudgesInfinite, ShowsBy, found_line}
 use Rattle.infinite_command.specs.Shown.{ShowsFound, ShowsInfinite}
-use Rattle.infinite_command.specs.Told.{BeginsWhole, IsRefusalText, Tells, TellsEither}
+use Rattle.infinite_command.specs.Told.{Tells, TellsEither}
+use Rattle.infinite_command.specs.declared.checking.Found.{Found}
+use Rattle.infinite_command.specs.declared.checking.Found.TheVariants.{Tracked, Whole}
 use Rattle.infinite_descriptions.specs.Head.{infinite_line}
 use Rattle.requests.specs.declared.plans.Layout.{Layout}
 use Rattle.infinite_command.specs.Told.Tells.{Yes, No}
@@ -70,13 +73,16 @@ tells_all Are front text accepted (bytes, are, is) told = elim (dec_lt 4194305 (
   )
 ]
 
-judges_longer : {A : Type 0} (v bytes : List ℕ) (q : Result Kept (Vec ℕ A)) → 4194304 < length v
+judges_longer : {A : Type 0} (v bytes : List ℕ) (q : Result Found (Vec ℕ A)) → 4194304 < length v
     → length v ≤ length bytes → JudgesInfinite v q → JudgesInfinite bytes q
-judges_longer v bytes (Ok k) long more (c, spells, kept, shown) = absurd (no_long v c long spells)
-judges_longer v bytes (Err text) long more told = tells_longer v bytes text.items false long more told
+judges_longer v bytes (Ok (Tracked k)) long more (none, (c, spells, kept, shown)) =
+    absurd (no_long v c long spells)
+judges_longer v bytes (Ok (Whole c)) long more (begins, spells, solved) =
+    absurd (no_long_whole v long begins)
+judges_longer v bytes (Err text) long more told = either_longer v bytes text.items false long more told
 
 -- what is found by the front is found by all
-pub finds_all : {A : Type 0} (Are : List ℕ → Type 0) (front : List ℕ) (q : Result Kept (Vec ℕ A))
+pub finds_all : {A : Type 0} (Are : List ℕ → Type 0) (front : List ℕ) (q : Result Found (Vec ℕ A))
     → IsFrontOf Are front → JudgesInfinite front q → FindsInfinite Are q
 finds_all Are front q (bytes, are, is) judged = elim (dec_lt 4194305 (length bytes)) [
   | yes long ↦
@@ -90,32 +96,44 @@ finds_all Are front q (bytes, are, is) judged = elim (dec_lt 4194305 (length byt
   )
 ]
 
--- what is said of what is found is told of the bytes
-pub tells_found : {A : Type 0} (bytes : List ℕ) (q : Result Kept (Vec ℕ A)) (text : List ℕ)
-    (succeeds : Bool) → JudgesInfinite bytes q → TellsFound q text succeeds → Tells bytes text succeeds
-tells_found bytes (Ok k) text succeeds (c, spells, kept, shown) (line, well) =
-    Yes c spells shown (line ∙ ap (λ (f : Fields). infinite_line f.code f.heaps) kept.claim) well
-tells_found bytes (Err said) text succeeds told (same, ill) =
-    subst (λ b. Tells bytes text b) (sym ill) (subst (λ t. Tells bytes t false) (sym same) told)
-
--- what is shown of what is found is shown of the bytes
-pub shows_found : {A : Type 0} (Are : List ℕ → Type 0) (layout : Layout)
-    (q : Result Kept (Vec ℕ A)) (text : List ℕ) (succeeds : Bool) → FindsInfinite Are q
-    → ShowsFound layout q text succeeds
-    → ShowsInfinite Are layout text succeeds
-shows_found Are layout (Ok k) text succeeds found (described, well) =
-    subst (λ b. ShowsInfinite Are layout text b) (sym well) (k, found, described)
-shows_found Are layout (Err said) text succeeds (bytes, are, told) (same, ill) =
-    subst (λ b. ShowsInfinite Are layout text b) (sym ill)
-    (bytes, are, subst (λ t. Tells bytes t false) (sym same) told)
-
 never : false ≡ true → ⊥
 never e = cc
 
--- what is told is told of a certificate with tracks unless the bytes begin as a whole game's
+-- what is told of bytes of one kind
+pub either_whole : (b : Bool) (bytes text : List ℕ) (accepted : Bool) → (b ≡ true ↔ BeginsWhole bytes)
+    → b ≡ true → TellsWhole bytes text accepted → TellsEither bytes text accepted
+either_whole b bytes text accepted begins is told = record {
+  whole = λ _. told;
+  tracked = λ none. absurd (none (begins.0 is));
+}
+
 pub either_tracked : (b : Bool) (bytes text : List ℕ) (accepted : Bool) → (b ≡ true ↔ BeginsWhole bytes)
     → b ≡ false → Tells bytes text accepted → TellsEither bytes text accepted
 either_tracked b bytes text accepted begins is told = record {
   whole = λ so. absurd (never (sym is ∙ begins.1 so));
   tracked = λ _. told;
 }
+
+-- the line of what is shown is a yes
+pub tells_yes : (bytes : List ℕ) (f : Found) (text : List ℕ) (succeeds : Bool) → ShowsBy bytes f
+    → text ≡ found_line f → succeeds ≡ true → TellsEither bytes text succeeds
+tells_yes bytes (Tracked k) text succeeds (none, (c, spells, kept, shown)) line well = record {
+  whole = λ begins. absurd (none begins);
+  tracked = λ _.
+      Yes c spells shown (line ∙ ap (λ (f : Fields). infinite_line f.code f.heaps) kept.claim) well;
+}
+tells_yes bytes (Whole c) text succeeds (begins, spells, solved) line well = record {
+  whole = λ _. Solved c spells solved line well;
+  tracked = λ none. absurd (none begins);
+}
+
+-- what is shown of what is found is shown of the bytes
+pub shows_found : {A : Type 0} (Are : List ℕ → Type 0) (layout : Layout)
+    (q : Result Found (Vec ℕ A)) (text : List ℕ) (succeeds : Bool) → FindsInfinite Are q
+    → ShowsFound layout q text succeeds
+    → ShowsInfinite Are layout text succeeds
+shows_found Are layout (Ok f) text succeeds found (described, well) =
+    subst (λ b. ShowsInfinite Are layout text b) (sym well) (f, found, described)
+shows_found Are layout (Err said) text succeeds (bytes, are, told) (same, ill) =
+    subst (λ b. ShowsInfinite Are layout text b) (sym ill)
+    (bytes, are, subst (λ t. TellsEither bytes t false) (sym same) told)

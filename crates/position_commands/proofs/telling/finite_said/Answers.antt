@@ -1,7 +1,7 @@
 use Rattle.player.specs.Answers.{SpeaksOf}
 use Rattle.position_commands.specs.Apart.{SaysApart}
 use Rattle.position_commands.proofs.Joined.{well_said}
-use Rattle.position_commands.proofs.telling.said_by.Goals as goal
+use Rattle.position_commands.proofs.telling.finite_said.Goals as goal
 
 pub returns-then-fits-2 : goal.returns-then-fits-2
 returns-then-fits-2 c =

@@ -1,7 +1,7 @@
 use Rattle.std.proofs.Common.{ℕ, List, subst}
 use Rattle.infinite_command.specs.Checks.{JudgesInfinite}
 use Rattle.infinite_command.proofs.Given.{finds_all}
-use Rattle.infinite_command.proofs.checking.shown.Goals as goal
+use Rattle.infinite_command.proofs.checking.found.Goals as goal
 
 pub returns-clause-found : goal.returns-clause-found
 returns-clause-found g c =

@@ -1,8 +1,8 @@
-//! The text of a no.
+//! The texts of refusals.
 ghost use Rattle.std.specs.Prelude.{◌≡◌, IfOk};
 ghost use Rattle.std.specs.String.{string_bytes};
 ghost use Rattle.infinite_answers.specs.Refusals.{refused};
-ghost use Rattle.infinite_command.specs.Told.{IsRefusalText};
+ghost use Rattle.given_quotients.specs.Told.{IsRefusalText};
 ghost use Rattle.verdict_texts.specs.Lines.{no_line};
 
 use allocation::Memory;
@@ -21,7 +21,7 @@ fn no_text(alloc: Global, number: u8, name: &str) -> Result<String, Memory>
 
 /// The text of a refusal: a line, and two more if the rule fails at a position, as for certificates
 /// without tracks. Want of memory has none, and is handed on.
-pub(crate) fn refusal_text(alloc: Global, refusal: InfiniteRefusal) -> Result<String, Memory>
+pub fn refusal_text(alloc: Global, refusal: InfiniteRefusal) -> Result<String, Memory>
     ensures { IfOk result (λ t. IsRefusalText (refused refusal) (string_bytes t)) }
 {
     match refusal {
