@@ -1,5 +1,5 @@
 -- The bytes that are read of a text decide as all of its bytes do.
-use Rattle.std.proofs.Common.{◌≡◌, ◌≢◌, ◌↔◌, ◌∙◌, ◌≤◌, ◌<◌, ℕ, Bool, true, false, List, Result, Ok, Err, Vec, ap, sym, subst, arith, length, take}
+use Rattle.std.proofs.Common.{◌≡◌, ◌≢◌, ◌↔◌, ◌∙◌, ◌<◌, ℕ, Bool, true, false, List, Result, Ok, Err, Vec, ap, sym, subst, arith, length, take}
 use Rattle.std.proofs.lemmas.List.{length-take, take_all}
 use native.Mathlib.Decide.{dec_lt}
 use Rattle.misere_theory.specs.Certificates.{Certificate}
@@ -9,7 +9,7 @@ use Rattle.answers.specs.ByteVerdicts.ByteVerdict.{Memory, Yes}
 use Rattle.check_machine.specs.Turns.{verdict}
 use Rattle.check_command.specs.Checks.{IsFrontOf, IsYes, SaysVerdict}
 use Rattle.given_quotients.specs.Told.{BeginsWhole, TellsWhole}
-use Rattle.given_quotients.specs.Given.{FindsQuotient, GivesBy, JudgesQuotient, RefusesBy}
+use Rattle.given_quotients.specs.Given.{FindsQuotient, JudgesQuotient, RefusesBy}
 use Rattle.given_quotients.specs.declared.giving.Quotient.{Quotient}
 use Rattle.given_quotients.specs.declared.giving.Quotient.TheVariants.{Finite, Whole}
 
@@ -24,8 +24,8 @@ module _ (laws : (bytes : List ℕ) (limit : ℕ) → IsTrueOf bytes limit (verd
     (same : (bytes : List ℕ) (limit : ℕ) → verdict (take 4194305 bytes) limit ≡ verdict bytes limit) where
   yes_of : (bytes front : List ℕ) (limit : ℕ) (c : Certificate) → verdict front limit ≡ verdict bytes limit
       → IsYes front limit c → IsYes bytes limit c
-  yes_of bytes front limit c e yes =
-      let is = sym e ∙ yes.1 in (subst (IsTrueOf bytes limit) is (laws bytes limit).0, is)
+  yes_of bytes front limit c e said =
+      let is = sym e ∙ said.1 in (subst (IsTrueOf bytes limit) is (laws bytes limit).0, is)
 
   says_of : (bytes front : List ℕ) (limit : ℕ) (text : List ℕ) → verdict front limit ≡ verdict bytes limit
       → SaysVerdict front limit text false → SaysVerdict bytes limit text false

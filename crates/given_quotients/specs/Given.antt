@@ -1,6 +1,6 @@
 -- What is found by the bytes that a file or standard input gives: a quotient, or the text of a no. This
 -- project's own.
-use Rattle.std.specs.Prelude.{◌≡◌, ◌⊎◌, ℕ, Bool, true, false, List, Result, Ok, Err, Vec}
+use Rattle.std.specs.Prelude.{ℕ, false, List, Result, Ok, Err, Vec}
 use Rattle.dominance_text.specs.Said.{DominanceSaid}
 use Rattle.dominance_text.specs.Spelling.{SpellsDominance}
 use Rattle.whole_checker.specs.Solved.{IsSolved}

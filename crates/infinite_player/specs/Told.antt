@@ -13,8 +13,8 @@ use Rattle.infinite_player.specs.declared.telling.Telling.TheVariants.{Nothing, 
 -- Beside Z the positions X and Y have these outcomes, which differ.
 pub record AreApartBy (code X Y Z : List ℕ) (first second : Outcome) : Type 0 where
   pub position : IsPosition IsHeap Z
-  pub first : HasOutcome code (X ++ Z) first
-  pub second : HasOutcome code (Y ++ Z) second
+  pub one : HasOutcome code (X ++ Z) first
+  pub other : HasOutcome code (Y ++ Z) second
   pub differ : first ≢ second
 
 -- The position weighs 2^100 or more.

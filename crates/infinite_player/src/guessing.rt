@@ -81,7 +81,10 @@ fn led<A: Allocator>(text: &DominanceText<A>, i: usize, lead: u128) -> Option<Gu
         return None;
     }
     let periods = lead.saturating_sub(least).checked_add(rise - 1)? / rise;
-    let waits = periods.checked_mul(rise)?.checked_add(least)?.saturating_sub(lead);
+    let waits = periods
+        .checked_mul(rise)?
+        .checked_add(least)?
+        .saturating_sub(lead);
     if waits > MOST_WAITS {
         return None;
     }
@@ -99,7 +102,10 @@ fn calming<A: Allocator>(text: &DominanceText<A>, i: usize, lead: u128) -> Optio
         return None;
     }
     let half = lead / 2 + 1;
-    let periods = half.saturating_sub(entry(&text.weights, i)).checked_add(rise - 1)? / rise;
+    let periods = half
+        .saturating_sub(entry(&text.weights, i))
+        .checked_add(rise - 1)?
+        / rise;
     Some(Guess {
         heap: heap_at(text, i, periods)?,
         count: 2,
@@ -160,7 +166,11 @@ pub(crate) fn position_of<B: SmallAllocator + Copy>(
 ) -> Result<Position<B>, Memory> {
     let mut position = Position::new(alloc);
     add(&mut position, guess.heap, guess.count)?;
-    add(&mut position, tools.waiting, guess.waits.saturating_add(more))?;
+    add(
+        &mut position,
+        tools.waiting,
+        guess.waits.saturating_add(more),
+    )?;
     add(&mut position, tools.turning, turns)?;
     Ok(position)
 }

@@ -76,6 +76,9 @@ pub fn told_apart<A: Allocator, B: SmallAllocator + Copy>(
 ) -> Result<Telling<B>, Memory>
     ensures { IfOk result (IsTelling game.now first.now second.now) }
 {
+    let text = game.text();
+    let _ = first.heaps();
+    let _ = second.heaps();
     let Some(x) = whole_value(game, first) else {
         return Ok(Telling::Heavy);
     };
@@ -85,8 +88,8 @@ pub fn told_apart<A: Allocator, B: SmallAllocator + Copy>(
     if x == y {
         return Ok(Telling::Nothing);
     }
-    let tools = tools_of(game.text());
-    for guess in guesses(alloc, game.text(), x, y)? {
+    let tools = tools_of(text);
+    for guess in guesses(alloc, text, x, y)? {
         if let Some(told) = tried(alloc, game, first, second, tools, guess)? {
             return Ok(told);
         }
