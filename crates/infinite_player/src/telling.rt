@@ -68,7 +68,7 @@ fn tried<A: Allocator, B: SmallAllocator + Copy>(
 /// indistinguishable. A position that does is looked for among those of a heap or two, and some of weight 0
 /// and 1: one that wears the greater lead down to 1, one whose lead lies between the two weights, or two
 /// equal heaps beside which no heap rules. Which of them tells two triples apart is this project's own.
-pub fn told_apart<A: Allocator, B: SmallAllocator + Copy>(
+pub fn whole_apart<A: Allocator, B: SmallAllocator + Copy>(
     alloc: B,
     game: &WholeGame<A>,
     first: &Position<B>,

@@ -1,7 +1,7 @@
 use Rattle.std.proofs.Common.{rules, ◌≡◌, ◌∙◌, sym, ap}
 use Rattle.infinite_player.specs.Values.{triple_told}
 use Rattle.infinite_player.proofs.Apart.{sizes_are_heaps, told_once}
-use Rattle.infinite_player.proofs.telling.told_apart.Goals as goal
+use Rattle.infinite_player.proofs.telling.whole_apart.Goals as goal
 
 pub returns-then-eq : goal.returns-then-eq
 returns-then-eq g c =
