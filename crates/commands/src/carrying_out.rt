@@ -18,7 +18,7 @@ use explain_command::explain;
 use folders::Folder;
 use infinite_command::{infinite, play_infinite, play_infinite_lines, show_infinite};
 use play_command::{play, play_lines};
-use position_commands::{apart, value, wins};
+use position_commands::{all_wins, apart, value};
 use present_command::present;
 use requests::Plan;
 use series_command::series;
@@ -116,7 +116,7 @@ fn say<'a, F: Folder, S: Source>(
             file,
             position,
             limit,
-        } => wins(alloc, file, position, limit, folder, input),
+        } => all_wins(alloc, file, position, limit, folder, input),
         Plan::Value {
             file,
             position,

@@ -71,21 +71,3 @@ module _ (laws : (bytes : List ℕ) (limit : ℕ) → IsTrueOf bytes limit (verd
           judged,
     )
   ]
-
--- what is judged as one kind is judged
-pub of_whole : (b : Bool) (bytes : List ℕ) (limit : ℕ) (text : List ℕ) → (b ≡ true ↔ BeginsWhole bytes)
-    → b ≡ true → TellsWhole bytes text false → RefusesBy bytes limit text
-of_whole b bytes limit text begins is told = record {
-  whole = λ _. told;
-  finite = λ none. absurd (none (begins.0 is));
-}
-
-never : false ≡ true → ⊥
-never e = cc
-
-pub of_finite : (b : Bool) (bytes : List ℕ) (limit : ℕ) (text : List ℕ) → (b ≡ true ↔ BeginsWhole bytes)
-    → b ≡ false → SaysVerdict bytes limit text false → RefusesBy bytes limit text
-of_finite b bytes limit text begins is said = record {
-  whole = λ so. absurd (never (sym is ∙ begins.1 so));
-  finite = λ _. said;
-}

@@ -41,11 +41,7 @@ fn judged_finite(
 }
 
 /// Checks the bytes: as a text of a whole game by their first word, or else as a certificate.
-fn judged(
-    alloc: Global,
-    bytes: &[u8],
-    limit: u32,
-) -> Result<Result<Quotient, Vec<u8>>, Memory>
+fn judged(alloc: Global, bytes: &[u8], limit: u32) -> Result<Result<Quotient, Vec<u8>>, Memory>
     ensures { IfOk result (JudgesQuotient bytes.now limit) }
 {
     if begins_whole(bytes) {

@@ -24,10 +24,7 @@ pub fn begins_whole(bytes: &[u8]) -> bool
 }
 
 /// Checks the bytes of a whole game: the game, or else the text of a no.
-pub fn judged_whole(
-    alloc: Global,
-    bytes: &[u8],
-) -> Result<Result<WholeGame, Vec<u8>>, Memory>
+pub fn judged_whole(alloc: Global, bytes: &[u8]) -> Result<Result<WholeGame, Vec<u8>>, Memory>
     ensures { IfOk result (JudgesWhole bytes.now) }
 {
     let refusal = match check_whole(alloc, bytes) {

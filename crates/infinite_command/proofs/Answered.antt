@@ -4,12 +4,12 @@ use Rattle.positions.specs.Text.{IsTextOf}
 use Rattle.command_results.specs.declared.said.Said.{Said}
 use Rattle.play_command.specs.Plays.{IsNoPosition}
 use Rattle.infinite_command.specs.Plays.{PlaysIn}
-use Rattle.infinite_command.specs.declared.checking.Found.{Found}
+use Rattle.infinite_command.specs.declared.checking.ShownText.{ShownText}
 use Rattle.infinite_command.specs.Many.{AnswersLine}
 use Rattle.infinite_command.specs.Many.AnswersLine.{InPosition}
 
 -- what is said in a position is said of its line
-pub in_position : {E : Type 0} (f : Found) (line X : List ℕ) (r : Result Said E)
+pub in_position : {E : Type 0} (f : ShownText) (line X : List ℕ) (r : Result Said E)
     → IsTextOf line X → (IsNoPosition line → ⊥)
     → IfOk r (λ s. PlaysIn f X s.text.items s.succeeds)
     → IfOk r (λ s. AnswersLine f line s.text.items s.succeeds)

@@ -12,8 +12,8 @@ use Rattle.given_quotients.specs.Told.TellsWhole.{Solved}
 use Rattle.infinite_command.specs.Checks.{ChecksEither, FindsInfinite, JudgesInfinite, ShowsBy, found_line}
 use Rattle.infinite_command.specs.Shown.{ShowsFound, ShowsInfinite}
 use Rattle.infinite_command.specs.Told.{Tells, TellsEither}
-use Rattle.infinite_command.specs.declared.checking.Found.{Found}
-use Rattle.infinite_command.specs.declared.checking.Found.TheVariants.{Tracked, Whole}
+use Rattle.infinite_command.specs.declared.checking.ShownText.{ShownText}
+use Rattle.infinite_command.specs.declared.checking.ShownText.TheVariants.{Tracked, Whole}
 use Rattle.infinite_descriptions.specs.Head.{infinite_line}
 use Rattle.requests.specs.declared.plans.Layout.{Layout}
 use Rattle.infinite_command.specs.Told.Tells.{Yes, No}
@@ -73,7 +73,7 @@ tells_all Are front text accepted (bytes, are, is) told = elim (dec_lt 4194305 (
   )
 ]
 
-judges_longer : {A : Type 0} (v bytes : List ℕ) (q : Result Found (Vec ℕ A)) → 4194304 < length v
+judges_longer : {A : Type 0} (v bytes : List ℕ) (q : Result ShownText (Vec ℕ A)) → 4194304 < length v
     → length v ≤ length bytes → JudgesInfinite v q → JudgesInfinite bytes q
 judges_longer v bytes (Ok (Tracked k)) long more (none, (c, spells, kept, shown)) =
     absurd (no_long v c long spells)
@@ -82,7 +82,7 @@ judges_longer v bytes (Ok (Whole c)) long more (begins, spells, solved) =
 judges_longer v bytes (Err text) long more told = either_longer v bytes text.items false long more told
 
 -- what is found by the front is found by all
-pub finds_all : {A : Type 0} (Are : List ℕ → Type 0) (front : List ℕ) (q : Result Found (Vec ℕ A))
+pub finds_all : {A : Type 0} (Are : List ℕ → Type 0) (front : List ℕ) (q : Result ShownText (Vec ℕ A))
     → IsFrontOf Are front → JudgesInfinite front q → FindsInfinite Are q
 finds_all Are front q (bytes, are, is) judged = elim (dec_lt 4194305 (length bytes)) [
   | yes long ↦
@@ -115,7 +115,7 @@ either_tracked b bytes text accepted begins is told = record {
 }
 
 -- the line of what is shown is a yes
-pub tells_yes : (bytes : List ℕ) (f : Found) (text : List ℕ) (succeeds : Bool) → ShowsBy bytes f
+pub tells_yes : (bytes : List ℕ) (f : ShownText) (text : List ℕ) (succeeds : Bool) → ShowsBy bytes f
     → text ≡ found_line f → succeeds ≡ true → TellsEither bytes text succeeds
 tells_yes bytes (Tracked k) text succeeds (none, (c, spells, kept, shown)) line well = record {
   whole = λ begins. absurd (none begins);
@@ -129,7 +129,7 @@ tells_yes bytes (Whole c) text succeeds (begins, spells, solved) line well = rec
 
 -- what is shown of what is found is shown of the bytes
 pub shows_found : {A : Type 0} (Are : List ℕ → Type 0) (layout : Layout)
-    (q : Result Found (Vec ℕ A)) (text : List ℕ) (succeeds : Bool) → FindsInfinite Are q
+    (q : Result ShownText (Vec ℕ A)) (text : List ℕ) (succeeds : Bool) → FindsInfinite Are q
     → ShowsFound layout q text succeeds
     → ShowsInfinite Are layout text succeeds
 shows_found Are layout (Ok f) text succeeds found (described, well) =

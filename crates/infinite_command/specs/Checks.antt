@@ -9,8 +9,8 @@ use Rattle.infinite_answers.specs.Shown.{IsShown}
 use Rattle.infinite_descriptions.specs.Head.{infinite_line}
 use Rattle.given_quotients.specs.Told.{BeginsWhole, whole_line}
 use Rattle.infinite_command.specs.Told.{Tells, TellsEither}
-use Rattle.infinite_command.specs.declared.checking.Found.{Found}
-use Rattle.infinite_command.specs.declared.checking.Found.TheVariants.{Tracked, Whole}
+use Rattle.infinite_command.specs.declared.checking.ShownText.{ShownText}
+use Rattle.infinite_command.specs.declared.checking.ShownText.TheVariants.{Tracked, Whole}
 
 -- the text of a true answer to the bytes that are given, and whether that is a yes
 abbrev pub ChecksEither : (List ℕ → Type 0) → List ℕ → Bool → Type 0
@@ -26,24 +26,24 @@ JudgesTracked bytes (Ok k) = IsShownBy bytes k
 JudgesTracked bytes (Err text) = Tells bytes text.items false
 
 -- The bytes show this: a whole game that is right if they begin so, and else an infinite quotient.
-abbrev pub ShowsBy : List ℕ → Found → Type 0
+abbrev pub ShowsBy : List ℕ → ShownText → Type 0
 ShowsBy bytes (Tracked k) = (BeginsWhole bytes → ⊥) × IsShownBy bytes k
 ShowsBy bytes (Whole c) = BeginsWhole bytes × SpellsDominance bytes c × IsSolved c
 
 -- the same of the bytes that are given
-abbrev pub Shows : (List ℕ → Type 0) → Found → Type 0
+abbrev pub Shows : (List ℕ → Type 0) → ShownText → Type 0
 Shows Are f = (bytes : List ℕ) × Are bytes × ShowsBy bytes f
 
 -- the bytes show this, or else the text is that of a true no
-abbrev pub JudgesInfinite : {A : Type 0} → List ℕ → Result Found (Vec ℕ A) → Type 0
+abbrev pub JudgesInfinite : {A : Type 0} → List ℕ → Result ShownText (Vec ℕ A) → Type 0
 JudgesInfinite bytes (Ok f) = ShowsBy bytes f
 JudgesInfinite bytes (Err text) = TellsEither bytes text.items false
 
 -- the same of the bytes that are given
-abbrev pub FindsInfinite : {A : Type 0} → (List ℕ → Type 0) → Result Found (Vec ℕ A) → Type 0
+abbrev pub FindsInfinite : {A : Type 0} → (List ℕ → Type 0) → Result ShownText (Vec ℕ A) → Type 0
 FindsInfinite Are found = (bytes : List ℕ) × Are bytes × JudgesInfinite bytes found
 
 -- the line of what was found
-abbrev pub found_line : Found → List ℕ
+abbrev pub found_line : ShownText → List ℕ
 found_line (Tracked k) = infinite_line k.claim.code k.claim.heaps
 found_line (Whole c) = whole_line c.code

@@ -6,12 +6,12 @@ use Rattle.command_results.specs.declared.lines.TheConstants.{LARGEST_INPUT}
 use Rattle.play_command.specs.Lines.{no_position_line}
 use Rattle.play_command.specs.Plays.{IsNoPosition}
 use Rattle.infinite_command.specs.Checks.{ChecksEither, Shows}
-use Rattle.infinite_command.specs.declared.checking.Found.{Found}
+use Rattle.infinite_command.specs.declared.checking.ShownText.{ShownText}
 use Rattle.infinite_command.specs.Plays.{PlaysIn}
 
 -- What is said of a line, and whether it has an answer: what is said in its position, or that it is
 -- none.
-pub data AnswersLine (f : Found) (line text : List ℕ) (succeeds : Bool) : Type 0 where
+pub data AnswersLine (f : ShownText) (line text : List ℕ) (succeeds : Bool) : Type 0 where
   InPosition : (X : List ℕ) → IsTextOf line X → (IsNoPosition line → ⊥) → PlaysIn f X text succeeds
       → AnswersLine f line text succeeds
   NoPosition : IsNoPosition line → text ≡ no_position_line → succeeds ≡ false
@@ -21,7 +21,7 @@ pub data AnswersLine (f : Found) (line text : List ℕ) (succeeds : Bool) : Type
 -- the lines are.
 pub data PlaysInfiniteLines (Are : List ℕ → Type 0) (AreLines : List ℕ → Type 0) (text : List ℕ)
     (succeeds : Bool) : Type 0 where
-  Shown : (f : Found) (lines : List ℕ) → Shows Are f → AreLines lines
+  Shown : (f : ShownText) (lines : List ℕ) → Shows Are f → AreLines lines
       → length lines ≤ LARGEST_INPUT → AnswersLines (AnswersLine f) lines text succeeds
       → PlaysInfiniteLines Are AreLines text succeeds
   Unshown : ChecksEither Are text false → succeeds ≡ false

@@ -8,8 +8,8 @@ use Rattle.player.specs.declared.answering.Answer.{Answer}
 use Rattle.play_command.specs.Lines.{answer_line, beyond_line}
 use Rattle.play_command.specs.Plays.{AnswersWhole}
 use Rattle.infinite_command.specs.Checks.{ChecksEither, Shows}
-use Rattle.infinite_command.specs.declared.checking.Found.{Found}
-use Rattle.infinite_command.specs.declared.checking.Found.TheVariants.{Tracked, Whole}
+use Rattle.infinite_command.specs.declared.checking.ShownText.{ShownText}
+use Rattle.infinite_command.specs.declared.checking.ShownText.TheVariants.{Tracked, Whole}
 
 -- the line of the right answer in the position, in the game of the quotient
 abbrev pub AnswersIn : Kept → List ℕ → List ℕ → Type 0
@@ -26,12 +26,12 @@ PlaysTracked k X text true = SpeaksOf k X × AnswersIn k X text
 PlaysTracked k X text false = IsBeyond k X text
 
 -- what is said in the position by what a text shows; a whole game speaks of each
-abbrev pub PlaysIn : Found → List ℕ → List ℕ → Bool → Type 0
+abbrev pub PlaysIn : ShownText → List ℕ → List ℕ → Bool → Type 0
 PlaysIn (Tracked k) X text succeeds = PlaysTracked k X text succeeds
 PlaysIn (Whole c) X text succeeds = AnswersWhole c X text × (succeeds ≡ true)
 
 -- the same if something was found, and the text of a no if nothing was
-abbrev pub PlaysFound : {A : Type 0} → Result Found (Vec ℕ A) → List ℕ → List ℕ → Bool → Type 0
+abbrev pub PlaysFound : {A : Type 0} → Result ShownText (Vec ℕ A) → List ℕ → List ℕ → Bool → Type 0
 PlaysFound (Ok f) X text succeeds = PlaysIn f X text succeeds
 PlaysFound (Err said) X text succeeds = (text ≡ said.items) × (succeeds ≡ false)
 
@@ -39,6 +39,6 @@ PlaysFound (Err said) X text succeeds = (text ≡ said.items) × (succeeds ≡ f
 -- that of a true no.
 abbrev pub PlaysInfinite : (List ℕ → Type 0) → List ℕ → List ℕ → Bool → Type 0
 PlaysInfinite Are position text succeeds =
-    ((f : Found) × Shows Are f
+    ((f : ShownText) × Shows Are f
     × ((X : List ℕ) × IsTextOf position X × PlaysIn f X text succeeds))
     ⊎ (ChecksEither Are text false × (succeeds ≡ false))

@@ -20,7 +20,7 @@ use whole_checker::WholeGame;
 
 /// What a text shows.
 #[derive(Drop)]
-pub enum Found {
+pub enum ShownText {
     /// An infinite quotient, by a certificate with tracks.
     Tracked(Infinite),
     /// A whole game in which one heap may rule all others.
@@ -45,17 +45,17 @@ fn judged_tracked(
 
 /// Checks the bytes under the limit: as a text of a whole game by their first word, or else as a certificate
 /// with tracks.
-fn judged(alloc: Global, bytes: &[u8], limit: u32) -> Result<Result<Found, Vec<u8>>, Memory>
+fn judged(alloc: Global, bytes: &[u8], limit: u32) -> Result<Result<ShownText, Vec<u8>>, Memory>
     ensures { IfOk result (JudgesInfinite bytes.now) }
 {
     if begins_whole(bytes) {
         return match judged_whole(alloc, bytes)? {
-            Ok(game) => Ok(Ok(Found::Whole(game))),
+            Ok(game) => Ok(Ok(ShownText::Whole(game))),
             Err(no) => Ok(Err(no)),
         };
     }
     match judged_tracked(alloc, bytes, limit)? {
-        Ok(shown) => Ok(Ok(Found::Tracked(shown))),
+        Ok(shown) => Ok(Ok(ShownText::Tracked(shown))),
         Err(no) => Ok(Err(no)),
     }
 }
@@ -68,7 +68,7 @@ pub fn found<'a, F: Folder, S: Source>(
     limit: u32,
     folder: &mut F,
     input: &mut S,
-) -> Result<Result<Found, Vec<u8>>, Stop<'a>>
+) -> Result<Result<ShownText, Vec<u8>>, Stop<'a>>
     ensures found { let named = option_map (λ f. f.now) file.entry in
         IfOk result (FindsInfinite (AreGiven (S.left input.old) (F.files folder.old) named)) }
     ensures kept { F.files folder.new ≡ F.files folder.old }
@@ -98,13 +98,13 @@ fn whole_line(alloc: Global, game: &WholeGame) -> Result<String, Memory>
 }
 
 /// The line of what was found.
-fn yes(alloc: Global, found: &Found) -> Result<Said, Memory>
+fn yes(alloc: Global, found: &ShownText) -> Result<Said, Memory>
     ensures line { IfOk result (λ s. s.text.items ≡ found_line found.now) }
     ensures succeeds { IfOk result (λ s. s.succeeds ≡ true) }
 {
     match found {
-        Found::Tracked(shown) => Ok(Said::done(yes_text(alloc, shown)?)),
-        Found::Whole(game) => Ok(Said::done(whole_line(alloc, game)?)),
+        ShownText::Tracked(shown) => Ok(Said::done(yes_text(alloc, shown)?)),
+        ShownText::Whole(game) => Ok(Said::done(whole_line(alloc, game)?)),
     }
 }
 

@@ -7,7 +7,7 @@ mod many;
 mod playing;
 mod showing;
 
-pub use checking::{Found, infinite, said_of_bytes};
+pub use checking::{ShownText, infinite, said_of_bytes};
 pub use many::play_infinite_lines;
 pub use playing::play_infinite;
 pub use showing::show_infinite;

@@ -5,7 +5,7 @@ ghost use Rattle.command_results.specs.Lines.{AnswersLines, AreLinesOf};
 ghost use Rattle.infinite_command.specs.Many.{AnswersLine, PlaysInfiniteLines};
 ghost use Rattle.play_command.specs.Many.{AreFileOf, IsPlayLinesCause};
 
-use crate::checking::{Found, found};
+use crate::checking::{ShownText, found};
 use crate::playing::played;
 use command_results::{Said, Stop, first_line, input_lines};
 use folders::Folder;
@@ -15,7 +15,7 @@ use std::alloc::{AllocError, Global};
 use streams::Source;
 
 /// What is said of a line: what `play_infinite` says in its position, or that it is none.
-fn line_answer(alloc: Global, found: &Found, line: &[u8]) -> Result<Said, AllocError>
+fn line_answer(alloc: Global, found: &ShownText, line: &[u8]) -> Result<Said, AllocError>
     ensures { IfOk result (λ s. AnswersLine found.now line.now s.text.items s.succeeds) }
 {
     match Position::read(alloc, line) {
@@ -28,7 +28,7 @@ fn line_answer(alloc: Global, found: &Found, line: &[u8]) -> Result<Said, AllocE
 }
 
 /// What is said of each line, one behind the other; it ends well if each line has an answer.
-fn lines_answers(alloc: Global, found: &Found, lines: &[u8]) -> Result<Said, AllocError>
+fn lines_answers(alloc: Global, found: &ShownText, lines: &[u8]) -> Result<Said, AllocError>
     ensures { IfOk result (λ s. AnswersLines (AnswersLine found.now) lines.now s.text.items s.succeeds) }
 {
     let mut text = Vec::new(alloc);

@@ -5,7 +5,7 @@ ghost use Rattle.infinite_player.specs.Plays.{SpeaksOf};
 ghost use Rattle.infinite_command.specs.Plays.{AnswersIn, PlaysFound, PlaysIn, PlaysInfinite, PlaysTracked};
 ghost use Rattle.play_command.specs.Plays.{IsPlayCause};
 
-use crate::checking::{Found, found};
+use crate::checking::{ShownText, found};
 use command_results::{Said, Stop};
 use folders::Folder;
 use infinite_answers::Infinite;
@@ -26,11 +26,7 @@ fn answered(alloc: Global, shown: &Infinite, position: &Position) -> Result<Said
 }
 
 /// The line of the answer in the position, or that the certificate doesn't speak of it.
-fn tracked_played(
-    alloc: Global,
-    shown: &Infinite,
-    position: &Position,
-) -> Result<Said, AllocError>
+fn tracked_played(alloc: Global, shown: &Infinite, position: &Position) -> Result<Said, AllocError>
     ensures { IfOk result (λ s. PlaysTracked shown.now position.now s.text.items s.succeeds) }
 {
     if fits(shown, position) {
@@ -43,21 +39,21 @@ fn tracked_played(
 /// What is said in the position by what was found.
 pub(crate) fn played(
     alloc: Global,
-    found: &Found,
+    found: &ShownText,
     position: &Position,
 ) -> Result<Said, AllocError>
     ensures { IfOk result (λ s. PlaysIn found.now position.now s.text.items s.succeeds) }
 {
     match found {
-        Found::Tracked(shown) => tracked_played(alloc, shown, position),
-        Found::Whole(game) => whole_played(alloc, game, position),
+        ShownText::Tracked(shown) => tracked_played(alloc, shown, position),
+        ShownText::Whole(game) => whole_played(alloc, game, position),
     }
 }
 
 /// The same, or the text of a no.
 fn said_in(
     alloc: Global,
-    found: Result<Found, Vec<u8>>,
+    found: Result<ShownText, Vec<u8>>,
     position: &Position,
 ) -> Result<Said, AllocError>
     ensures { IfOk result (λ s. PlaysFound found position.now s.text.items s.succeeds) }

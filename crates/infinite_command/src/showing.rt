@@ -5,7 +5,7 @@ ghost use Rattle.infinite_descriptions.specs.Described.{IsDescription};
 ghost use Rattle.infinite_descriptions.specs.Whole.{IsWholeText};
 ghost use Rattle.infinite_command.specs.Shown.{ShowsFound, ShowsInfinite, output_for};
 
-use crate::checking::{Found, found};
+use crate::checking::{ShownText, found};
 use allocation::Memory;
 use command_results::{Said, Stop};
 use folders::Folder;
@@ -48,12 +48,12 @@ fn game_said(alloc: Global, game: &WholeGame) -> Result<Said, Memory>
 }
 
 /// What is said of what was found.
-fn said_of(alloc: Global, found: Result<Found, Vec<u8>>, layout: Layout) -> Result<Said, Memory>
+fn said_of(alloc: Global, found: Result<ShownText, Vec<u8>>, layout: Layout) -> Result<Said, Memory>
     ensures { IfOk result (λ s. ShowsFound layout found s.text.items s.succeeds) }
 {
     match found {
-        Ok(Found::Tracked(shown)) => quotient_said(alloc, &shown, layout),
-        Ok(Found::Whole(game)) => game_said(alloc, &game),
+        Ok(ShownText::Tracked(shown)) => quotient_said(alloc, &shown, layout),
+        Ok(ShownText::Whole(game)) => game_said(alloc, &game),
         Err(no) => Ok(Said::no(no)),
     }
 }

@@ -6,7 +6,7 @@ ghost use Rattle.misere_theory.specs.Labels.{RepresentsBy};
 ghost use Rattle.dominance.specs.Triples.{IsElement, claim_by};
 ghost use Rattle.dominance_text.specs.Labels.{label_of};
 ghost use Rattle.dominance_text.specs.Said.{IsInRanges};
-ghost use Rattle.infinite_descriptions.specs.Whole.{IsWholeText, heap_rank_line, heap_rank_lines, monoid_text, relation_of, repeat_line, whole_text};
+ghost use Rattle.infinite_descriptions.specs.Whole.{IsWholeText, heap_rank_line, heap_rank_lines, monoid_text, presentation, relation_of, repeat_line, whole_text};
 
 use crate::lists::{all_three, both};
 use allocation::Memory;
@@ -23,45 +23,45 @@ fn relation_of(all: bool) -> &'static str
 }
 
 /// The monoid U by generators and relations, its P-portion, and the triples of the generators.
+fn presentation() -> &'static str
+    ensures { result.now ≡ presentation }
+{
+    "< a,b,h_0,h_1,.. | a^2=1, h_i h_j=h_i b^(j+2) for j<=i, h_i b^(i+1)=b^(2i+3) >\nP = { a, b^(2k+2), b^k h_i for k<=i and k+i odd }\na odd, b weight 1, h_i weight i+2 lead i+1\n"
+}
+
+/// The same of the game of the code, whose quotient it is, or lies in it.
 fn monoid_text(alloc: Global, code: &Code, all: bool) -> Result<String, Memory>
     ensures { IfOk result (λ s. string_bytes s ≡ monoid_text code.now all) }
 {
-    let (code, relation) = (code.text(alloc)?, relation_of(all));
-    let text = format!(in alloc;
-        "Q({code}) {relation} < a,b,h_0,h_1,.. | a^2=1, h_i h_j=h_i b^(j+2) for j<=i, h_i b^(i+1)=b^(2i+3) >\nP = {{ a, b^(2k+2), b^k h_i for k<=i and k+i odd }}\na odd, b weight 1, h_i weight i+2 lead i+1\n"
-    )?;
+    let (code, relation, monoid) = (code.text(alloc)?, relation_of(all), presentation());
+    let text = format!(in alloc; "Q({code}) {relation} {monoid}")?;
     Ok(text)
 }
 
-/// The triple of heap number i + 1.
-fn heap_rank_line<A: Allocator>(
+/// The triple of a heap.
+fn heap_rank_line(
     alloc: Global,
-    text: &DominanceText<A>,
-    i: usize,
+    heap: usize,
+    odd: u16,
+    weight: u16,
+    lead: u16,
 ) -> Result<String, Memory>
-    requires odd { i < length text.now.odd }
-    requires weights { length text.now.weights ≡ length text.now.odd }
-    requires leads { length text.now.leads ≡ length text.now.odd }
-    ensures { IfOk result (λ s. string_bytes s ≡ heap_rank_line text.now i) }
+    ensures { IfOk result (λ s. string_bytes s ≡ heap_rank_line heap odd weight lead) }
 {
-    let (heap, odd) = (i + 1, text.odd[i]);
-    let (weight, lead) = (text.weights[i], text.leads[i]);
     let line = format!(in alloc; "heap {heap} odd {odd} weight {weight} lead {lead}\n")?;
     Ok(line)
 }
 
 /// Those of the heaps up to the end of the first period.
-fn heap_rank_lines<A: Allocator>(
-    alloc: Global,
-    text: &DominanceText<A>,
-) -> Result<String, Memory>
+fn heap_rank_lines<A: Allocator>(alloc: Global, text: &DominanceText<A>) -> Result<String, Memory>
     requires weights { length text.now.weights ≡ length text.now.odd }
     requires leads { length text.now.leads ≡ length text.now.odd }
     ensures { IfOk result (λ s. string_bytes s ≡ heap_rank_lines text.now (length text.now.odd)) }
 {
     let mut lines = String::new(alloc);
     for i in 0..text.odd.len() {
-        let line = heap_rank_line(alloc, text, i)?;
+        let (weight, lead) = (text.weights[i], text.leads[i]);
+        let line = heap_rank_line(alloc, i + 1, text.odd[i], weight, lead)?;
         lines.push_str(line.as_str())?;
     }
     Ok(lines)

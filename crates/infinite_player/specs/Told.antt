@@ -7,8 +7,8 @@ use Rattle.dominance.specs.Triples.{triple_of}
 use Rattle.dominance_text.specs.Said.{DominanceSaid}
 use Rattle.dominance_text.specs.Labels.{label_of}
 use Rattle.infinite_player.specs.declared.triples.TheConstants.{LARGEST_SUM}
-use Rattle.infinite_player.specs.declared.telling.Telling.{Telling}
-use Rattle.infinite_player.specs.declared.telling.Telling.TheVariants.{Nothing, By, Untried, Heavy}
+use Rattle.infinite_player.specs.declared.telling.Separation.{Separation}
+use Rattle.infinite_player.specs.declared.telling.Separation.TheVariants.{Nothing, By, Untried, Heavy}
 
 -- Beside Z the positions X and Y have these outcomes, which differ.
 pub record AreApartBy (code X Y Z : List ℕ) (first second : Outcome) : Type 0 where
@@ -23,7 +23,7 @@ IsHeavy c X = LARGEST_SUM ≤ (triple_of (label_of c) X).weight
 
 -- What is said to tell X and Y apart does. Nothing, if they are indistinguishable; and if something is said
 -- to do so that isn't named, they aren't.
-abbrev pub IsTelling : {A : Type 0} → DominanceSaid → List ℕ → List ℕ → Telling A → Type 0
+abbrev pub IsTelling : {A : Type 0} → DominanceSaid → List ℕ → List ℕ → Separation A → Type 0
 IsTelling c X Y Nothing = Indistinguishable IsHeap c.code X Y
 IsTelling c X Y (By Z first second) = AreApartBy c.code X Y Z first second
 IsTelling c X Y Untried = Indistinguishable IsHeap c.code X Y → ⊥

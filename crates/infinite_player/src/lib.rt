@@ -19,7 +19,7 @@ pub use laws::plays_stay_inside;
 pub use play::{answer, answer_at, fits, outcome, outcome_at, speaks_of};
 pub use player::Answer;
 pub use positions::Outcome;
-pub use telling::{Telling, whole_apart};
+pub use telling::{Separation, whole_apart};
 pub use triples::LARGEST_SUM;
 pub use value::{WholeValue, whole_value};
 pub use whole::{whole_answer, whole_answer_at, whole_outcome, whole_outcome_at};

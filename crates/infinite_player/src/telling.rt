@@ -12,7 +12,7 @@ use whole_checker::WholeGame;
 
 /// What tells two positions apart.
 #[derive(Drop)]
-pub enum Telling<B: SmallAllocator = Global> {
+pub enum Separation<B: SmallAllocator = Global> {
     /// Nothing does: they are indistinguishable.
     Nothing,
     /// Beside this position they have these outcomes, which differ.
@@ -51,14 +51,14 @@ fn tried<A: Allocator, B: SmallAllocator + Copy>(
     second: &Position<B>,
     tools: Tools,
     guess: Guess,
-) -> Result<Option<Telling<B>>, Memory>
+) -> Result<Option<Separation<B>>, Memory>
     ensures { IfOk result
         (λ told. IfSome told (λ t. IsTelling game.now first.now second.now t)) }
 {
     for i in 0..6 {
         let third = position_of(alloc, tools, guess, i / 2, i % 2)?;
         if let Some((one, other)) = told_by(game, first, second, &third)? {
-            return Ok(Some(Telling::By(third, one, other)));
+            return Ok(Some(Separation::By(third, one, other)));
         }
     }
     Ok(None)
@@ -73,20 +73,20 @@ pub fn whole_apart<A: Allocator, B: SmallAllocator + Copy>(
     game: &WholeGame<A>,
     first: &Position<B>,
     second: &Position<B>,
-) -> Result<Telling<B>, Memory>
+) -> Result<Separation<B>, Memory>
     ensures { IfOk result (IsTelling game.now first.now second.now) }
 {
     let text = game.text();
     let _ = first.heaps();
     let _ = second.heaps();
     let Some(x) = whole_value(game, first) else {
-        return Ok(Telling::Heavy);
+        return Ok(Separation::Heavy);
     };
     let Some(y) = whole_value(game, second) else {
-        return Ok(Telling::Heavy);
+        return Ok(Separation::Heavy);
     };
     if x == y {
-        return Ok(Telling::Nothing);
+        return Ok(Separation::Nothing);
     }
     let tools = tools_of(text);
     for guess in guesses(alloc, text, x, y)? {
@@ -94,5 +94,5 @@ pub fn whole_apart<A: Allocator, B: SmallAllocator + Copy>(
             return Ok(told);
         }
     }
-    Ok(Telling::Untried)
+    Ok(Separation::Untried)
 }

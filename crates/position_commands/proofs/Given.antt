@@ -1,5 +1,5 @@
 -- What is said, from what was found.
-use Rattle.std.proofs.Common.{◌≡◌, ℕ, Bool, false, List, Result, Ok, Err, Vec, inl, inr, subst, sym}
+use Rattle.std.proofs.Common.{ℕ, Bool, false, List, Result, Ok, Err, Vec, inl, inr, subst, sym}
 use Rattle.misere_theory.specs.Certificates.{Certificate}
 use Rattle.check_command.specs.Checks.{Finds, Checks}
 use Rattle.dominance_text.specs.Said.{DominanceSaid}

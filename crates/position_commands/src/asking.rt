@@ -19,11 +19,7 @@ use std::alloc::Global;
 use streams::Source;
 
 /// What the certificate says of the position.
-fn said_by(
-    alloc: Global,
-    certified: &Certified,
-    position: &Position,
-) -> Result<Said, Memory>
+fn said_by(alloc: Global, certified: &Certified, position: &Position) -> Result<Said, Memory>
     ensures { IfOk result (λ s. SaysBy (λ c. SpeaksOf c position.now) (λ c. TellsWins c position.now)
         certified.now s.text.items s.succeeds) }
 {
@@ -53,7 +49,7 @@ fn said_in(
 /// All winning moves in the position by the finite quotient that the file, or standard input where no file
 /// is named, certifies under the limit; or says that a partial quotient doesn't speak of the position, or
 /// why there is none. The position is read first.
-pub fn wins<'a, F: Folder, S: Source>(
+pub fn all_wins<'a, F: Folder, S: Source>(
     alloc: Global,
     file: Option<&'a str>,
     position: &str,

@@ -7,7 +7,7 @@ mod telling;
 mod valuing;
 mod wins;
 
-pub use asking::wins;
+pub use asking::all_wins;
 pub use telling::apart;
 pub use valuing::value;
 pub use wins::MOST_LOOKS;

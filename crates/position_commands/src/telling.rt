@@ -15,7 +15,7 @@ use answers::Certified;
 use command_results::{Said, Stop};
 use folders::Folder;
 use given_quotients::{Quotient, quotient_of};
-use infinite_player::{Telling, whole_apart};
+use infinite_player::{Separation, whole_apart};
 use play_command::{beyond, position_of};
 use player::{Outcome, fits, value};
 use positions::Position;
@@ -110,10 +110,10 @@ fn whole_said(
     ensures { IfOk result (λ s. SaysApartOfWhole game.now first.now second.now s.text.items s.succeeds) }
 {
     match whole_apart(alloc, game, first, second)? {
-        Telling::Nothing => Ok(Said::done(alike_text(alloc)?)),
-        Telling::By(third, one, other) => Ok(Said::done(apart_text(alloc, &third, one, other)?)),
-        Telling::Untried => Ok(Said::done(untried_text(alloc)?)),
-        Telling::Heavy => Ok(Said::no(heavy_text(alloc)?.into_bytes())),
+        Separation::Nothing => Ok(Said::done(alike_text(alloc)?)),
+        Separation::By(third, one, other) => Ok(Said::done(apart_text(alloc, &third, one, other)?)),
+        Separation::Untried => Ok(Said::done(untried_text(alloc)?)),
+        Separation::Heavy => Ok(Said::no(heavy_text(alloc)?.into_bytes())),
     }
 }
 

@@ -1,5 +1,5 @@
 use Rattle.position_commands.proofs.Given.{says_found}
-use Rattle.position_commands.proofs.asking.wins.Goals as goal
+use Rattle.position_commands.proofs.asking.all_wins.Goals as goal
 
 pub returns-in-Ok-clause-asks : goal.returns-in-Ok-clause-asks
 returns-in-Ok-clause-asks g c = (
