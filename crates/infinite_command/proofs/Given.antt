@@ -1,13 +1,15 @@
 -- The bytes that are read of a certificate decide as all of its bytes do.
-use Rattle.std.proofs.Common.{◌≡◌, ◌↔◌, ◌∙◌, ◌≤◌, ◌<◌, ap, sym, subst, ℕ, Bool, true, false, List, Result, Ok, Err, Vec, arith, length}
+use Rattle.std.proofs.Common.{◌≡◌, ◌∙◌, ◌≤◌, ◌<◌, ap, sym, subst, ℕ, Bool, true, false, List, Option, Some, None, Result, Ok, Err, IfOk, Vec, arith, length}
 use Rattle.std.proofs.lemmas.List.{length-take, take_all}
 use native.Mathlib.Decide.{dec_lt}
 use Rattle.tracked_claims.specs.Fields.{Fields}
 use Rattle.tracked_text.specs.Said.{Said}
 use Rattle.tracked_text.specs.Spelling.{Spells}
-use Rattle.check_command.specs.Checks.{IsFrontOf}
-use Rattle.infinite_answers.specs.Answers.{IsTrueOf, Why, Text, Law, Order, Outcome, Limit, Memory, Part, Idle, Undecided, Ray}
-use Rattle.given_quotients.specs.Told.{BeginsWhole, IsRefusalText, TellsWhole}
+use Rattle.check_command.specs.Checks.{Failed, IsFrontOf, IsGivenCause}
+use Rattle.command_results.specs.declared.said.Said.{Said as Saying}
+use Rattle.command_results.specs.declared.stop.Stop.TheVariants.{Memory}
+use Rattle.infinite_answers.specs.Answers.{IsTrueOf, Why, Text, Law, Order, Outcome, Limit, Memory as Lacking, Part, Idle, Undecided, Ray}
+use Rattle.given_quotients.specs.Told.{BeginsWhole, IsRefusalText}
 use Rattle.given_quotients.specs.Told.TellsWhole.{Solved}
 use Rattle.infinite_command.specs.Checks.{ChecksEither, FindsInfinite, JudgesInfinite, ShowsBy, found_line}
 use Rattle.infinite_command.specs.Shown.{ShowsFound, ShowsInfinite}
@@ -32,7 +34,7 @@ true_of_longer v bytes text Law long more h told = absurd (no_long v h.0 long h.
 true_of_longer v bytes text Order long more h told = absurd (no_long v h.0 long h.1)
 true_of_longer v bytes text (Outcome code X) long more h told = absurd (no_long v h.0 long h.1)
 true_of_longer v bytes text Limit long more h told = absurd (no_long v h.0 long h.1)
-true_of_longer v bytes text Memory long more h told = absurd told
+true_of_longer v bytes text Lacking long more h told = absurd told
 true_of_longer v bytes text (Part n) long more h told = absurd (no_long v h.0 long h.1)
 true_of_longer v bytes text Idle long more h told = absurd (no_long v h.0 long h.1)
 true_of_longer v bytes text Undecided long more h told = absurd (no_long v h.0 long h.1)
@@ -96,24 +98,6 @@ finds_all Are front q (bytes, are, is) judged = elim (dec_lt 4194305 (length byt
   )
 ]
 
-never : false ≡ true → ⊥
-never e = cc
-
--- what is told of bytes of one kind
-pub either_whole : (b : Bool) (bytes text : List ℕ) (accepted : Bool) → (b ≡ true ↔ BeginsWhole bytes)
-    → b ≡ true → TellsWhole bytes text accepted → TellsEither bytes text accepted
-either_whole b bytes text accepted begins is told = record {
-  whole = λ _. told;
-  tracked = λ none. absurd (none (begins.0 is));
-}
-
-pub either_tracked : (b : Bool) (bytes text : List ℕ) (accepted : Bool) → (b ≡ true ↔ BeginsWhole bytes)
-    → b ≡ false → Tells bytes text accepted → TellsEither bytes text accepted
-either_tracked b bytes text accepted begins is told = record {
-  whole = λ so. absurd (never (sym is ∙ begins.1 so));
-  tracked = λ _. told;
-}
-
 -- the line of what is shown is a yes
 pub tells_yes : (bytes : List ℕ) (f : ShownText) (text : List ℕ) (succeeds : Bool) → ShowsBy bytes f
     → text ≡ found_line f → succeeds ≡ true → TellsEither bytes text succeeds
@@ -126,6 +110,18 @@ tells_yes bytes (Whole c) text succeeds (begins, spells, solved) line well = rec
   whole = λ _. Solved c spells solved line well;
   tracked = λ none. absurd (none begins);
 }
+
+pub yes_said : {E : Type 0} (bytes : List ℕ) (f : ShownText) (r : Result Saying E) → ShowsBy bytes f
+    → IfOk r (λ s. s.text.items ≡ found_line f) → IfOk r (λ s. s.succeeds ≡ true)
+    → IfOk r (λ s. TellsEither bytes s.text.items s.succeeds)
+yes_said bytes f (Ok s) shown line well = tells_yes bytes f s.text.items s.succeeds shown line well
+yes_said bytes f (Err e) shown line well = tt
+
+-- want of memory is a cause where no device has failed
+pub no_more : (file : Option (List ℕ)) (before after : Failed) → after ≡ before
+    → IsGivenCause file before after Memory
+no_more None before after same = ap (λ (f : Failed). f.input) same
+no_more (Some name) before after same = ap (λ (f : Failed). f.files) same
 
 -- what is shown of what is found is shown of the bytes
 pub shows_found : {A : Type 0} (Are : List ℕ → Type 0) (layout : Layout)

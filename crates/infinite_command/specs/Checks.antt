@@ -1,5 +1,5 @@
 -- What is found by the bytes of a certificate with tracks, or of a whole game. This project's own.
-use Rattle.std.specs.Prelude.{◌≡◌, ℕ, Bool, false, List, Result, Ok, Err, Vec}
+use Rattle.std.specs.Prelude.{ℕ, Bool, false, List, Result, Ok, Err, Vec}
 use Rattle.dominance_text.specs.Spelling.{SpellsDominance}
 use Rattle.tracked_text.specs.Said.{Said}
 use Rattle.tracked_text.specs.Spelling.{Spells}

@@ -1,2 +1,0 @@
-use Rattle.infinite_command.proofs.Given.{either_tracked, either_whole}
-use Rattle.infinite_command.proofs.checking.judged.Goals as goal
