@@ -14,8 +14,7 @@ use Rattle.infinite_command.specs.Plays.{PlaysInfinite}
 use Rattle.infinite_command.specs.Shown.{ShowsInfinite}
 use Rattle.play_command.specs.Many.{AreFileOf, PlaysLines}
 use Rattle.play_command.specs.Plays.{Plays}
-use Rattle.position_commands.specs.Said.{Asks, AsksOfTwo}
-use Rattle.position_commands.specs.declared.asking.Question.TheVariants as question
+use Rattle.position_commands.specs.Said.{AsksOfTwo, AsksValue, AsksWins}
 use Rattle.present_command.specs.Presented.{Presents}
 use Rattle.requests.specs.Requests.{Request}
 use Rattle.requests.specs.Requests.Request.{Check, Solve, SolveMany, SolveLines, Series, Show, Tail, Describe, Play, PlayLines, Present, Catalogue, Desk}
@@ -58,9 +57,9 @@ Says input before after (Play file position limit) text succeeds =
 Says input before after (PlayLines file limit) text succeeds =
     PlaysLines (AreFileOf before file) limit (AreLinesOf input) text succeeds
 Says input before after (Wins file position limit) text succeeds =
-    Asks (AreGiven input before file) limit question.Wins position text succeeds
+    AsksWins (AreGiven input before file) limit position text succeeds
 Says input before after (Value file position limit) text succeeds =
-    Asks (AreGiven input before file) limit question.Element position text succeeds
+    AsksValue (AreGiven input before file) limit position text succeeds
 Says input before after (Apart file first second limit) text succeeds =
     AsksOfTwo (AreGiven input before file) limit first second text succeeds
 Says input before after (Compare first second limit) text succeeds =

@@ -18,7 +18,7 @@ use explain_command::explain;
 use folders::Folder;
 use infinite_command::{infinite, play_infinite, play_infinite_lines, show_infinite};
 use play_command::{play, play_lines};
-use position_commands::{Question, apart, ask};
+use position_commands::{all_wins, apart, value};
 use present_command::present;
 use requests::Plan;
 use series_command::series;
@@ -116,20 +116,12 @@ fn say<'a, F: Folder, S: Source>(
             file,
             position,
             limit,
-        } => ask(alloc, file, position, Question::Wins, limit, folder, input),
+        } => all_wins(alloc, file, position, limit, folder, input),
         Plan::Value {
             file,
             position,
             limit,
-        } => ask(
-            alloc,
-            file,
-            position,
-            Question::Element,
-            limit,
-            folder,
-            input,
-        ),
+        } => value(alloc, file, position, limit, folder, input),
         Plan::Apart {
             file,
             first,

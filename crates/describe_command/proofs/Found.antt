@@ -1,16 +1,16 @@
 -- What is said, from what was found.
-use Rattle.std.proofs.Common.{ℕ, Bool, false, List, Option, Result, Ok, Err, Vec, subst, sym}
-use Rattle.misere_theory.specs.Certificates.{Certificate}
-use Rattle.check_command.specs.Checks.{Finds, Checks}
+use Rattle.std.proofs.Common.{ℕ, Bool, List, Option, Result, Ok, Err, Vec, subst, sym}
+use Rattle.given_quotients.specs.Given.{FindsQuotient, Refuses}
+use Rattle.given_quotients.specs.declared.giving.Quotient.{Quotient}
 use Rattle.relations.specs.declared.finding.Form.{Form}
 use Rattle.requests.specs.declared.plans.Output.{Output}
 use Rattle.describe_command.specs.Described.{Describes, DescribesFoundBy, HasMet}
-use Rattle.describe_command.specs.Described.Describes.{Quotient, NoQuotient}
+use Rattle.describe_command.specs.Described.Describes.{ByQuotient, NoQuotient}
 
 pub describes_found : {A : Type 0} (Are : List ℕ → Type 0) (limit : ℕ) (form : Form) (output : Output)
-    (q : Result Certificate (Vec ℕ A)) (text : List ℕ) (succeeds : Bool) (told : Option (List ℕ))
-    → Finds Are limit q → DescribesFoundBy HasMet q form output text succeeds told
+    (q : Result Quotient (Vec ℕ A)) (text : List ℕ) (succeeds : Bool) (told : Option (List ℕ))
+    → FindsQuotient Are limit q → DescribesFoundBy HasMet q form output text succeeds told
     → Describes Are limit form output text succeeds told
-describes_found Are limit form output (Ok c) text succeeds told f h = Quotient c f h
+describes_found Are limit form output (Ok q) text succeeds told f h = ByQuotient q f h
 describes_found Are limit form output (Err said) text succeeds told f h =
-    NoQuotient (subst (λ (t : List ℕ). Checks Are limit t false) (sym h.0) f) h.1 h.2
+    NoQuotient (subst (λ (t : List ℕ). Refuses Are limit t) (sym h.0) f) h.1 h.2

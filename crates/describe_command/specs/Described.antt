@@ -1,7 +1,11 @@
 -- What `describe` prints. This project's own.
 use Rattle.std.specs.Prelude.{◌≡◌, ◌⊎◌, ℕ, Bool, true, false, List, ◌++◌, Option, None, option_map, Result, Ok, Err, Vec, codes}
 use Rattle.misere_theory.specs.Certificates.{Certificate}
-use Rattle.check_command.specs.Checks.{Certifies, Checks}
+use Rattle.dominance_text.specs.Said.{DominanceSaid}
+use Rattle.given_quotients.specs.Given.{Gives, Refuses}
+use Rattle.given_quotients.specs.declared.giving.Quotient.{Quotient}
+use Rattle.given_quotients.specs.declared.giving.Quotient.TheVariants.{Finite, Whole}
+use Rattle.infinite_descriptions.specs.Whole.{IsWholeText}
 use Rattle.descriptions.specs.Described.{IsDescription, IsIdealText}
 use Rattle.descriptions.specs.Presenting.{IsRelationsWord}
 use Rattle.descriptions.specs.declared.presenting.PresentBound.{PresentBound}
@@ -54,6 +58,12 @@ abbrev pub IsRelationsText : Form → Certificate → List ℕ → Option (List 
 IsRelationsText form c text note = (word : List ℕ) × (above : Option PresentBound)
     × IsRelationsWord form c word above × (text ≡ word ++ codes "\n") × (note ≡ option_map note_line above)
 
+-- The text of a whole game, in lines; or that it is described in lines alone.
+abbrev pub DescribesWhole : DominanceSaid → Output → List ℕ → Bool → Type 0
+DescribesWhole c Description text succeeds = IsWholeText c text × (succeeds ≡ true)
+DescribesWhole c _ text succeeds =
+    (text ≡ codes "a whole game is described in lines alone\n") × (succeeds ≡ false)
+
 -- What is said by a search of which only this is known, when it met a bound.
 module _ (Met : Meets) where
   -- what is said in place of a quotient is true of it: the bound was met, and of want of memory nothing is
@@ -92,24 +102,30 @@ module _ (Met : Meets) where
       (IsRelationsText form c text note × (succeeds ≡ true))
       ⊎ (IsBoundLineBy c form text × (succeeds ≡ false) × (note ≡ None))
 
+  -- the same of either kind of quotients
+  abbrev pub DescribesOfBy : Quotient → Form → Output → List ℕ → Bool → Option (List ℕ) → Type 0
+  DescribesOfBy (Finite c) form output text succeeds note =
+      DescribesQuotientBy c form output text succeeds note
+  DescribesOfBy (Whole c) form output text succeeds note =
+      DescribesWhole c output text succeeds × (note ≡ None)
+
   -- the same of the quotient that was found, and the text of a no where none was
-  abbrev pub DescribesFoundBy : {A : Type 0} → Result Certificate (Vec ℕ A) → Form → Output → List ℕ
+  abbrev pub DescribesFoundBy : {A : Type 0} → Result Quotient (Vec ℕ A) → Form → Output → List ℕ
       → Bool → Option (List ℕ) → Type 0
-  DescribesFoundBy (Ok c) form output text succeeds note = DescribesQuotientBy c form output text succeeds note
+  DescribesFoundBy (Ok q) form output text succeeds note = DescribesOfBy q form output text succeeds note
   DescribesFoundBy (Err said) form output text succeeds note =
       (text ≡ said.items) × (succeeds ≡ false) × (note ≡ None)
 
 -- The same by the calls of `relations`.
-abbrev pub DescribesQuotient : Certificate → Form → Output → List ℕ → Bool → Option (List ℕ) → Type 0
-DescribesQuotient c form output text succeeds note =
-    DescribesQuotientBy HasMet c form output text succeeds note
+abbrev pub DescribesOf : Quotient → Form → Output → List ℕ → Bool → Option (List ℕ) → Type 0
+DescribesOf q form output text succeeds note = DescribesOfBy HasMet q form output text succeeds note
 
--- The text describes the quotient that such bytes certify under the limit, or says that it isn't
--- described; or it is that of a true no. Beside relations that `present` refuses there is a note.
+-- The text describes the quotient that such bytes give under the limit, or says that it isn't described;
+-- or it is that of a true no. Beside relations that `present` refuses there is a note.
 pub data Describes (Are : List ℕ → Type 0) (limit : ℕ) (form : Form) (output : Output)
     (text : List ℕ) (succeeds : Bool) (note : Option (List ℕ)) : Type 0 where
-  Quotient : (c : Certificate) → Certifies Are limit c
-      → DescribesQuotient c form output text succeeds note
+  ByQuotient : (q : Quotient) → Gives Are limit q
+      → DescribesOf q form output text succeeds note
       → Describes Are limit form output text succeeds note
-  NoQuotient : Checks Are limit text false → succeeds ≡ false → note ≡ None
+  NoQuotient : Refuses Are limit text → succeeds ≡ false → note ≡ None
       → Describes Are limit form output text succeeds note

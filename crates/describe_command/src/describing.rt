@@ -1,20 +1,22 @@
-//! `describe`: a certified quotient by generators and relations.
+//! `describe`: the quotient that a file gives, by generators and relations.
 ghost use Rattle.std.specs.Prelude.{◌≡◌, ◌++◌, IfOk, IfErr, None, true, false, codes, is_none, is_some, option_map};
 ghost use Rattle.std.specs.String.{string_bytes};
 ghost use Rattle.check_command.specs.Checks.{AreGiven, IsGivenCause, failed};
-ghost use Rattle.describe_command.specs.Described.{Describes, DescribesFoundBy, DescribesInBy, DescribesForBy, DescribesQuotientBy, bound_line, note_line};
+ghost use Rattle.describe_command.specs.Described.{Describes, DescribesFoundBy, DescribesInBy, DescribesForBy, DescribesQuotientBy, DescribesWhole, bound_line, note_line};
 ghost use Rattle.requests.specs.declared.plans.Output.TheVariants.{Relations};
 
 use crate::searches::{Relating, Texts};
 use allocation::Memory;
 use answers::Certified;
-use check_command::certified;
 use command_results::{Noted, Said, Stop};
 use descriptions::{Bound, Form, Notation, PresentBound, RelationsWord, System, Undescribed};
 use folders::Folder;
+use given_quotients::{Quotient, quotient_of};
+use infinite_descriptions::whole_text;
 use requests::Output;
 use std::alloc::Global;
 use streams::Source;
+use whole_checker::WholeGame;
 
 /// What is said, with nothing told beside it.
 fn alone(said: Said) -> Noted
@@ -134,36 +136,65 @@ fn presented<T: Texts>(
     }
 }
 
+/// The certified quotient, as it is asked for, and what is told beside it.
+fn finite_noted<T: Texts>(
+    by: &T,
+    alloc: Global,
+    certified: &Certified,
+    form: Form,
+    output: Output,
+) -> Result<Noted, Memory>
+    ensures { IfOk result (λ n. DescribesQuotientBy T.has_met certified.now form output n.said.text.items
+        n.said.succeeds (option_map (λ t. t.now) n.note)) }
+{
+    match output {
+        Output::Description => described(by, alloc, certified, form, Notation::Plain),
+        Output::Latex => described(by, alloc, certified, form, Notation::Latex),
+        Output::Json => described(by, alloc, certified, form, Notation::Json),
+        Output::Relations => presented(by, alloc, certified, form),
+        Output::Singular => computed(by, alloc, certified, form, System::Singular),
+        Output::Gap => computed(by, alloc, certified, form, System::Gap),
+    }
+}
+
+/// The quotient of a whole game in lines, or that it is described in lines alone.
+fn whole_noted(alloc: Global, game: &WholeGame, output: Output) -> Result<Noted, Memory>
+    ensures { IfOk result (λ n. DescribesWhole game.now output n.said.text.items n.said.succeeds
+        × (option_map (λ t. t.now) n.note ≡ None)) }
+{
+    match output {
+        Output::Description => Ok(alone(Said::done(whole_text(alloc, game)?))),
+        Output::Latex | Output::Json | Output::Relations | Output::Singular | Output::Gap => {
+            refuse(alloc, "a whole game is described in lines alone\n")
+        }
+    }
+}
+
 /// What is said of what was found, and told beside it.
 fn noted<T: Texts>(
     by: &T,
     alloc: Global,
-    quotient: Result<Certified, Vec<u8>>,
+    found: Result<Quotient, Vec<u8>>,
     form: Form,
     output: Output,
 ) -> Result<Noted, Memory>
-    ensures { IfOk result (λ n. DescribesFoundBy T.has_met quotient form output n.said.text.items n.said.succeeds
+    ensures { IfOk result (λ n. DescribesFoundBy T.has_met found form output n.said.text.items n.said.succeeds
         (option_map (λ t. t.now) n.note)) }
 {
-    match quotient {
-        Ok(certified) => match output {
-            Output::Description => described(by, alloc, &certified, form, Notation::Plain),
-            Output::Latex => described(by, alloc, &certified, form, Notation::Latex),
-            Output::Json => described(by, alloc, &certified, form, Notation::Json),
-            Output::Relations => presented(by, alloc, &certified, form),
-            Output::Singular => computed(by, alloc, &certified, form, System::Singular),
-            Output::Gap => computed(by, alloc, &certified, form, System::Gap),
-        },
+    match found {
+        Ok(Quotient::Finite(certified)) => finite_noted(by, alloc, &certified, form, output),
+        Ok(Quotient::Whole(game)) => whole_noted(alloc, &game, output),
         Err(no) => Ok(alone(Said::no(no))),
     }
 }
 
-/// The quotient that the file, or standard input where no file is named, certifies under the limit,
-/// described: by relations that present its monoid in this form, with its portion, orders,
+/// The quotient that the file, or standard input where no file is named, gives under the limit,
+/// described. A finite one is: by relations that present its monoid in this form, with its portion, orders,
 /// generators, standard invariants and the pretending function in words, plain, for LaTeX or in JSON;
 /// or by its relations alone, as one word for `present`, or as an ideal for Singular or GAP. Or else why
-/// it certifies none, or within which bound it is not described. The note names the bound of `present`
-/// that the one word's relations are above.
+/// it gives none, or within which bound it is not described. The note names the bound of `present`
+/// that the one word's relations are above. That of a whole game is described in lines alone: by the
+/// presentation of the monoid of triples, and the triples of its heaps.
 pub fn describe<'a, F: Folder, S: Source>(
     alloc: Global,
     file: Option<&'a str>,
@@ -184,8 +215,8 @@ pub fn describe<'a, F: Folder, S: Source>(
     ensures folder { is_some (option_map (λ f. f.now) file.entry) ≡ false
         → folder.new ≡ folder.old }
 {
-    let quotient = certified(alloc, file, limit, folder, input)?;
-    match noted(&Relating, alloc, quotient, form, output) {
+    let found = quotient_of(alloc, file, limit, folder, input)?;
+    match noted(&Relating, alloc, found, form, output) {
         Ok(noted) => Ok(noted),
         Err(Memory) => Err(Stop::Memory),
     }

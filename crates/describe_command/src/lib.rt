@@ -1,4 +1,4 @@
-//! `describe`: the quotient that a file certifies, as the literature prints it.
+//! `describe`: the quotient that a file gives, as the literature prints it.
 #![tactic(auto)]
 
 mod describing;

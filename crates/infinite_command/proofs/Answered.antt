@@ -2,16 +2,16 @@
 use Rattle.std.proofs.Common.{ℕ, List, Result, Ok, Err, IfOk}
 use Rattle.positions.specs.Text.{IsTextOf}
 use Rattle.command_results.specs.declared.said.Said.{Said}
-use Rattle.infinite_answers.specs.Kept.{Kept}
 use Rattle.play_command.specs.Plays.{IsNoPosition}
 use Rattle.infinite_command.specs.Plays.{PlaysIn}
+use Rattle.infinite_command.specs.declared.checking.ShownText.{ShownText}
 use Rattle.infinite_command.specs.Many.{AnswersLine}
 use Rattle.infinite_command.specs.Many.AnswersLine.{InPosition}
 
 -- what is said in a position is said of its line
-pub in_position : {E : Type 0} (k : Kept) (line X : List ℕ) (r : Result Said E)
+pub in_position : {E : Type 0} (f : ShownText) (line X : List ℕ) (r : Result Said E)
     → IsTextOf line X → (IsNoPosition line → ⊥)
-    → IfOk r (λ s. PlaysIn k X s.text.items s.succeeds)
-    → IfOk r (λ s. AnswersLine k line s.text.items s.succeeds)
-in_position k line X (Ok s) read some plays = InPosition X read some plays
-in_position k line X (Err e) read some plays = tt
+    → IfOk r (λ s. PlaysIn f X s.text.items s.succeeds)
+    → IfOk r (λ s. AnswersLine f line s.text.items s.succeeds)
+in_position f line X (Ok s) read some plays = InPosition X read some plays
+in_position f line X (Err e) read some plays = tt

@@ -1,16 +1,21 @@
 -- The bytes that are read of a certificate decide as all of its bytes do.
-use Rattle.std.proofs.Common.{◌≡◌, ◌↔◌, ◌∙◌, ◌≤◌, ◌<◌, ap, sym, subst, ℕ, Bool, true, false, List, Result, Ok, Err, Vec, arith, length}
+use Rattle.std.proofs.Common.{◌≡◌, ◌∙◌, ◌≤◌, ◌<◌, ap, sym, subst, ℕ, Bool, true, false, List, Option, Some, None, Result, Ok, Err, IfOk, Vec, arith, length}
 use Rattle.std.proofs.lemmas.List.{length-take, take_all}
 use native.Mathlib.Decide.{dec_lt}
 use Rattle.tracked_claims.specs.Fields.{Fields}
 use Rattle.tracked_text.specs.Said.{Said}
 use Rattle.tracked_text.specs.Spelling.{Spells}
-use Rattle.check_command.specs.Checks.{IsFrontOf}
-use Rattle.infinite_answers.specs.Answers.{IsTrueOf, Why, Text, Law, Order, Outcome, Limit, Memory, Part, Idle, Undecided, Ray}
-use Rattle.infinite_answers.specs.Kept.{Kept}
-use Rattle.infinite_command.specs.Checks.{ChecksEither, FindsInfinite, JudgesInfinite, TellsFound}
+use Rattle.check_command.specs.Checks.{Failed, IsFrontOf, IsGivenCause}
+use Rattle.command_results.specs.declared.said.Said.{Said as Saying}
+use Rattle.command_results.specs.declared.stop.Stop.TheVariants.{Memory}
+use Rattle.infinite_answers.specs.Answers.{IsTrueOf, Why, Text, Law, Order, Outcome, Limit, Memory as Lacking, Part, Idle, Undecided, Ray}
+use Rattle.given_quotients.specs.Told.{BeginsWhole, IsRefusalText}
+use Rattle.given_quotients.specs.Told.TellsWhole.{Solved}
+use Rattle.infinite_command.specs.Checks.{ChecksEither, FindsInfinite, JudgesInfinite, ShowsBy, found_line}
 use Rattle.infinite_command.specs.Shown.{ShowsFound, ShowsInfinite}
-use Rattle.infinite_command.specs.Told.{BeginsWhole, IsRefusalText, Tells, TellsEither}
+use Rattle.infinite_command.specs.Told.{Tells, TellsEither}
+use Rattle.infinite_command.specs.declared.checking.ShownText.{ShownText}
+use Rattle.infinite_command.specs.declared.checking.ShownText.TheVariants.{Tracked, Whole}
 use Rattle.infinite_descriptions.specs.Head.{infinite_line}
 use Rattle.requests.specs.declared.plans.Layout.{Layout}
 use Rattle.infinite_command.specs.Told.Tells.{Yes, No}
@@ -29,7 +34,7 @@ true_of_longer v bytes text Law long more h told = absurd (no_long v h.0 long h.
 true_of_longer v bytes text Order long more h told = absurd (no_long v h.0 long h.1)
 true_of_longer v bytes text (Outcome code X) long more h told = absurd (no_long v h.0 long h.1)
 true_of_longer v bytes text Limit long more h told = absurd (no_long v h.0 long h.1)
-true_of_longer v bytes text Memory long more h told = absurd told
+true_of_longer v bytes text Lacking long more h told = absurd told
 true_of_longer v bytes text (Part n) long more h told = absurd (no_long v h.0 long h.1)
 true_of_longer v bytes text Idle long more h told = absurd (no_long v h.0 long h.1)
 true_of_longer v bytes text Undecided long more h told = absurd (no_long v h.0 long h.1)
@@ -70,13 +75,16 @@ tells_all Are front text accepted (bytes, are, is) told = elim (dec_lt 4194305 (
   )
 ]
 
-judges_longer : {A : Type 0} (v bytes : List ℕ) (q : Result Kept (Vec ℕ A)) → 4194304 < length v
+judges_longer : {A : Type 0} (v bytes : List ℕ) (q : Result ShownText (Vec ℕ A)) → 4194304 < length v
     → length v ≤ length bytes → JudgesInfinite v q → JudgesInfinite bytes q
-judges_longer v bytes (Ok k) long more (c, spells, kept, shown) = absurd (no_long v c long spells)
-judges_longer v bytes (Err text) long more told = tells_longer v bytes text.items false long more told
+judges_longer v bytes (Ok (Tracked k)) long more (none, (c, spells, kept, shown)) =
+    absurd (no_long v c long spells)
+judges_longer v bytes (Ok (Whole c)) long more (begins, spells, solved) =
+    absurd (no_long_whole v long begins)
+judges_longer v bytes (Err text) long more told = either_longer v bytes text.items false long more told
 
 -- what is found by the front is found by all
-pub finds_all : {A : Type 0} (Are : List ℕ → Type 0) (front : List ℕ) (q : Result Kept (Vec ℕ A))
+pub finds_all : {A : Type 0} (Are : List ℕ → Type 0) (front : List ℕ) (q : Result ShownText (Vec ℕ A))
     → IsFrontOf Are front → JudgesInfinite front q → FindsInfinite Are q
 finds_all Are front q (bytes, are, is) judged = elim (dec_lt 4194305 (length bytes)) [
   | yes long ↦
@@ -90,32 +98,38 @@ finds_all Are front q (bytes, are, is) judged = elim (dec_lt 4194305 (length byt
   )
 ]
 
--- what is said of what is found is told of the bytes
-pub tells_found : {A : Type 0} (bytes : List ℕ) (q : Result Kept (Vec ℕ A)) (text : List ℕ)
-    (succeeds : Bool) → JudgesInfinite bytes q → TellsFound q text succeeds → Tells bytes text succeeds
-tells_found bytes (Ok k) text succeeds (c, spells, kept, shown) (line, well) =
-    Yes c spells shown (line ∙ ap (λ (f : Fields). infinite_line f.code f.heaps) kept.claim) well
-tells_found bytes (Err said) text succeeds told (same, ill) =
-    subst (λ b. Tells bytes text b) (sym ill) (subst (λ t. Tells bytes t false) (sym same) told)
+-- the line of what is shown is a yes
+pub tells_yes : (bytes : List ℕ) (f : ShownText) (text : List ℕ) (succeeds : Bool) → ShowsBy bytes f
+    → text ≡ found_line f → succeeds ≡ true → TellsEither bytes text succeeds
+tells_yes bytes (Tracked k) text succeeds (none, (c, spells, kept, shown)) line well = record {
+  whole = λ begins. absurd (none begins);
+  tracked = λ _.
+      Yes c spells shown (line ∙ ap (λ (f : Fields). infinite_line f.code f.heaps) kept.claim) well;
+}
+tells_yes bytes (Whole c) text succeeds (begins, spells, solved) line well = record {
+  whole = λ _. Solved c spells solved line well;
+  tracked = λ none. absurd (none begins);
+}
+
+pub yes_said : {E : Type 0} (bytes : List ℕ) (f : ShownText) (r : Result Saying E) → ShowsBy bytes f
+    → IfOk r (λ s. s.text.items ≡ found_line f) → IfOk r (λ s. s.succeeds ≡ true)
+    → IfOk r (λ s. TellsEither bytes s.text.items s.succeeds)
+yes_said bytes f (Ok s) shown line well = tells_yes bytes f s.text.items s.succeeds shown line well
+yes_said bytes f (Err e) shown line well = tt
+
+-- want of memory is a cause where no device has failed
+pub no_more : (file : Option (List ℕ)) (before after : Failed) → after ≡ before
+    → IsGivenCause file before after Memory
+no_more None before after same = ap (λ (f : Failed). f.input) same
+no_more (Some name) before after same = ap (λ (f : Failed). f.files) same
 
 -- what is shown of what is found is shown of the bytes
 pub shows_found : {A : Type 0} (Are : List ℕ → Type 0) (layout : Layout)
-    (q : Result Kept (Vec ℕ A)) (text : List ℕ) (succeeds : Bool) → FindsInfinite Are q
+    (q : Result ShownText (Vec ℕ A)) (text : List ℕ) (succeeds : Bool) → FindsInfinite Are q
     → ShowsFound layout q text succeeds
     → ShowsInfinite Are layout text succeeds
-shows_found Are layout (Ok k) text succeeds found (described, well) =
-    subst (λ b. ShowsInfinite Are layout text b) (sym well) (k, found, described)
+shows_found Are layout (Ok f) text succeeds found (described, well) =
+    subst (λ b. ShowsInfinite Are layout text b) (sym well) (f, found, described)
 shows_found Are layout (Err said) text succeeds (bytes, are, told) (same, ill) =
     subst (λ b. ShowsInfinite Are layout text b) (sym ill)
-    (bytes, are, subst (λ t. Tells bytes t false) (sym same) told)
-
-never : false ≡ true → ⊥
-never e = cc
-
--- what is told is told of a certificate with tracks unless the bytes begin as a whole game's
-pub either_tracked : (b : Bool) (bytes text : List ℕ) (accepted : Bool) → (b ≡ true ↔ BeginsWhole bytes)
-    → b ≡ false → Tells bytes text accepted → TellsEither bytes text accepted
-either_tracked b bytes text accepted begins is told = record {
-  whole = λ so. absurd (never (sym is ∙ begins.1 so));
-  tracked = λ _. told;
-}
+    (bytes, are, subst (λ t. TellsEither bytes t false) (sym same) told)

@@ -1,4 +1,3 @@
 pub mod Given
 mod Found
-mod Played
 mod Answered

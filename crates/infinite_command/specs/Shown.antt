@@ -2,11 +2,13 @@
 use Rattle.std.specs.Prelude.{◌≡◌, ℕ, Bool, true, false, List, Result, Ok, Err, Vec}
 use Rattle.requests.specs.declared.plans.Layout.{Layout}
 use Rattle.requests.specs.declared.plans.Layout.TheVariants as layout
-use Rattle.infinite_answers.specs.Kept.{Kept}
 use Rattle.infinite_descriptions.specs.Described.{IsDescription}
 use Rattle.infinite_descriptions.specs.declared.describing.Output.{Output}
 use Rattle.infinite_descriptions.specs.declared.describing.Output.TheVariants.{Plain, Latex, Json}
-use Rattle.infinite_command.specs.Checks.{ChecksInfinite, Shows}
+use Rattle.infinite_descriptions.specs.Whole.{IsWholeText}
+use Rattle.infinite_command.specs.Checks.{ChecksEither, Shows}
+use Rattle.infinite_command.specs.declared.checking.ShownText.{ShownText}
+use Rattle.infinite_command.specs.declared.checking.ShownText.TheVariants.{Tracked, Whole}
 
 -- for whom the text is
 abbrev pub output_for : Layout → Output
@@ -14,14 +16,17 @@ output_for layout.Lines = Plain
 output_for layout.Latex = Latex
 output_for layout.Json = Json
 
--- all of a quotient that was found, and else the text of a no
-abbrev pub ShowsFound : {A : Type 0} → Layout → Result Kept (Vec ℕ A) → List ℕ → Bool → Type 0
-ShowsFound layout (Ok k) text succeeds =
-    IsDescription (output_for layout) k text × (succeeds ≡ true)
+-- all that a text says of what it shows; of a whole game in lines, whatever the layout
+abbrev pub ShowsAs : Layout → ShownText → List ℕ → Type 0
+ShowsAs layout (Tracked k) text = IsDescription (output_for layout) k text
+ShowsAs layout (Whole c) text = IsWholeText c text
+
+-- the same of what was found, and else the text of a no
+abbrev pub ShowsFound : {A : Type 0} → Layout → Result ShownText (Vec ℕ A) → List ℕ → Bool → Type 0
+ShowsFound layout (Ok f) text succeeds = ShowsAs layout f text × (succeeds ≡ true)
 ShowsFound layout (Err said) text succeeds = (text ≡ said.items) × (succeeds ≡ false)
 
--- all of the infinite quotient that such bytes show, or the text of a true no
+-- all of what such bytes show, or the text of a true no
 abbrev pub ShowsInfinite : (List ℕ → Type 0) → Layout → List ℕ → Bool → Type 0
-ShowsInfinite Are layout text true =
-    (k : Kept) × Shows Are k × IsDescription (output_for layout) k text
-ShowsInfinite Are layout text false = ChecksInfinite Are text false
+ShowsInfinite Are layout text true = (f : ShownText) × Shows Are f × ShowsAs layout f text
+ShowsInfinite Are layout text false = ChecksEither Are text false

@@ -2,30 +2,38 @@
 ghost use Rattle.std.specs.Prelude.{◌≡◌, false, true, IfOk, IfErr, is_none, is_some, option_map};
 ghost use Rattle.std.specs.String.{string_bytes};
 ghost use Rattle.check_command.specs.Checks.{AreGiven, IsGivenCause, failed};
-ghost use Rattle.infinite_answers.specs.Refusals.{refused};
-ghost use Rattle.infinite_command.specs.Told.{IsRefusalText, TellsEither};
-ghost use Rattle.infinite_descriptions.specs.Head.{infinite_line};
-ghost use Rattle.infinite_command.specs.Checks.{ChecksEither, FindsInfinite, JudgesInfinite, TellsFound};
+ghost use Rattle.given_quotients.specs.Told.{whole_line};
+ghost use Rattle.infinite_command.specs.Told.{TellsEither};
+ghost use Rattle.infinite_command.specs.Checks.{ChecksEither, FindsInfinite, JudgesInfinite, JudgesTracked, found_line};
 
-use crate::lines::refusal_text;
-use crate::whole::{begins_whole, whole_said};
 use allocation::Memory;
 use check_command::given_bytes;
 use command_results::{Said, Stop};
 use folders::Folder;
+use given_quotients::{begins_whole, judged_whole, refusal_text};
 use infinite_answers::Infinite;
 use infinite_checker::check_infinite;
 use infinite_descriptions::yes_text;
 use std::alloc::Global;
 use streams::Source;
+use whole_checker::WholeGame;
 
-/// Checks the bytes under the limit: their quotient, or else the text of a no.
-pub(crate) fn judged(
+/// What a text shows.
+#[derive(Drop)]
+pub enum ShownText {
+    /// An infinite quotient, by a certificate with tracks.
+    Tracked(Infinite),
+    /// A whole game in which one heap may rule all others.
+    Whole(WholeGame),
+}
+
+/// Checks the bytes of a certificate with tracks under the limit: what it shows, or else the text of a no.
+fn judged_tracked(
     alloc: Global,
     bytes: &[u8],
     limit: u32,
 ) -> Result<Result<Infinite, Vec<u8>>, Memory>
-    ensures { IfOk result (JudgesInfinite bytes.now) }
+    ensures { IfOk result (JudgesTracked bytes.now) }
 {
     let refusal = match check_infinite(alloc, bytes, limit) {
         Ok(shown) => return Ok(Ok(shown)),
@@ -35,16 +43,32 @@ pub(crate) fn judged(
     Ok(Err(text.into_bytes()))
 }
 
-/// Checks the certificate in the file, or on standard input where no file is named, under the limit:
-/// the infinite quotient that it shows, or else the text of a no. Whichever of the two isn't read is
-/// left alone.
-pub fn shown<'a, F: Folder, S: Source>(
+/// Checks the bytes under the limit: as a text of a whole game by their first word, or else as a certificate
+/// with tracks.
+fn judged(alloc: Global, bytes: &[u8], limit: u32) -> Result<Result<ShownText, Vec<u8>>, Memory>
+    ensures { IfOk result (JudgesInfinite bytes.now) }
+{
+    if begins_whole(bytes) {
+        return match judged_whole(alloc, bytes)? {
+            Ok(game) => Ok(Ok(ShownText::Whole(game))),
+            Err(no) => Ok(Err(no)),
+        };
+    }
+    match judged_tracked(alloc, bytes, limit)? {
+        Ok(shown) => Ok(Ok(ShownText::Tracked(shown))),
+        Err(no) => Ok(Err(no)),
+    }
+}
+
+/// Checks the text in the file, or on standard input where no file is named, under the limit: what it shows,
+/// or else the text of a no. Whichever of the two isn't read is left alone.
+pub fn found<'a, F: Folder, S: Source>(
     alloc: Global,
     file: Option<&'a str>,
     limit: u32,
     folder: &mut F,
     input: &mut S,
-) -> Result<Result<Infinite, Vec<u8>>, Stop<'a>>
+) -> Result<Result<ShownText, Vec<u8>>, Stop<'a>>
     ensures found { let named = option_map (λ f. f.now) file.entry in
         IfOk result (FindsInfinite (AreGiven (S.left input.old) (F.files folder.old) named)) }
     ensures kept { F.files folder.new ≡ F.files folder.old }
@@ -64,22 +88,23 @@ pub fn shown<'a, F: Folder, S: Source>(
     Ok(found)
 }
 
-/// The line of a quotient.
-fn yes(alloc: Global, shown: &Infinite) -> Result<Said, Memory>
-    ensures line { IfOk result
-        (λ s. s.text.items ≡ infinite_line shown.now.claim.code shown.now.claim.heaps) }
-    ensures succeeds { IfOk result (λ s. s.succeeds ≡ true) }
+/// The line of a whole game.
+fn whole_line(alloc: Global, game: &WholeGame) -> Result<String, Memory>
+    ensures { IfOk result (λ t. string_bytes t ≡ whole_line game.now.code) }
 {
-    Ok(Said::done(yes_text(alloc, shown)?))
+    let code = game.code().text(alloc)?;
+    let text = format!(in alloc; "infinite {code} whole\n")?;
+    Ok(text)
 }
 
-/// What is said of what was found.
-fn said_of(alloc: Global, found: Result<Infinite, Vec<u8>>) -> Result<Said, Memory>
-    ensures { IfOk result (λ s. TellsFound found s.text.items s.succeeds) }
+/// The line of what was found.
+fn yes(alloc: Global, found: &ShownText) -> Result<Said, Memory>
+    ensures line { IfOk result (λ s. s.text.items ≡ found_line found.now) }
+    ensures succeeds { IfOk result (λ s. s.succeeds ≡ true) }
 {
     match found {
-        Ok(shown) => yes(alloc, &shown),
-        Err(no) => Ok(Said::no(no)),
+        ShownText::Tracked(shown) => Ok(Said::done(yes_text(alloc, shown)?)),
+        ShownText::Whole(game) => Ok(Said::done(whole_line(alloc, game)?)),
     }
 }
 
@@ -87,12 +112,10 @@ fn said_of(alloc: Global, found: Result<Infinite, Vec<u8>>) -> Result<Said, Memo
 pub fn said_of_bytes(alloc: Global, bytes: &[u8], limit: u32) -> Result<Said, Memory>
     ensures { IfOk result (λ s. TellsEither bytes.now s.text.items s.succeeds) }
 {
-    if begins_whole(bytes) {
-        return whole_said(alloc, bytes);
+    match judged(alloc, bytes, limit)? {
+        Ok(found) => yes(alloc, &found),
+        Err(no) => Ok(Said::no(no)),
     }
-    let found = judged(alloc, bytes, limit)?;
-    let said = said_of(alloc, found)?;
-    Ok(said)
 }
 
 /// Checks the certificate in the file, or on standard input where no file is named: the line of the

@@ -5,22 +5,21 @@ ghost use Rattle.command_results.specs.Lines.{AnswersLines, AreLinesOf};
 ghost use Rattle.infinite_command.specs.Many.{AnswersLine, PlaysInfiniteLines};
 ghost use Rattle.play_command.specs.Many.{AreFileOf, IsPlayLinesCause};
 
-use crate::checking::shown;
+use crate::checking::{ShownText, found};
 use crate::playing::played;
 use command_results::{Said, Stop, first_line, input_lines};
 use folders::Folder;
-use infinite_answers::Infinite;
 use play_command::no_position;
 use positions::{Position, PositionFault};
 use std::alloc::{AllocError, Global};
 use streams::Source;
 
 /// What is said of a line: what `play_infinite` says in its position, or that it is none.
-fn line_answer(alloc: Global, shown: &Infinite, line: &[u8]) -> Result<Said, AllocError>
-    ensures { IfOk result (λ s. AnswersLine shown.now line.now s.text.items s.succeeds) }
+fn line_answer(alloc: Global, found: &ShownText, line: &[u8]) -> Result<Said, AllocError>
+    ensures { IfOk result (λ s. AnswersLine found.now line.now s.text.items s.succeeds) }
 {
     match Position::read(alloc, line) {
-        Ok(position) => played(alloc, shown, &position),
+        Ok(position) => played(alloc, found, &position),
         Err(PositionFault::Memory) => Err(AllocError),
         Err(PositionFault::Text | PositionFault::TooMany | PositionFault::TooLarge) => {
             no_position(alloc)
@@ -29,15 +28,15 @@ fn line_answer(alloc: Global, shown: &Infinite, line: &[u8]) -> Result<Said, All
 }
 
 /// What is said of each line, one behind the other; it ends well if each line has an answer.
-fn lines_answers(alloc: Global, shown: &Infinite, lines: &[u8]) -> Result<Said, AllocError>
-    ensures { IfOk result (λ s. AnswersLines (AnswersLine shown.now) lines.now s.text.items s.succeeds) }
+fn lines_answers(alloc: Global, found: &ShownText, lines: &[u8]) -> Result<Said, AllocError>
+    ensures { IfOk result (λ s. AnswersLines (AnswersLine found.now) lines.now s.text.items s.succeeds) }
 {
     let mut text = Vec::new(alloc);
     let mut succeeds = true;
     let mut rest = lines;
     while !rest.is_empty() {
         let (line, behind) = first_line(rest);
-        let said = line_answer(alloc, shown, line)?;
+        let said = line_answer(alloc, found, line)?;
         text.extend_from_slice(&said.text)?;
         succeeds = succeeds && said.succeeds;
         rest = behind;
@@ -45,10 +44,10 @@ fn lines_answers(alloc: Global, shown: &Infinite, lines: &[u8]) -> Result<Said, 
     Ok(Said { text, succeeds })
 }
 
-/// Answers in the position of each line of standard input by the infinite quotient that the file shows
+/// Answers in the position of each line of standard input by what the file shows
 /// under the limit, as [`play_infinite`](crate::play_infinite) does in one; of a line that is no
-/// position it says so. It ends well if each line has an answer. Or it says why the file shows no
-/// quotient, and standard input is left alone. The certificate is checked once, and first.
+/// position it says so. It ends well if each line has an answer. Or it says why the file shows
+/// nothing, and standard input is left alone. The certificate is checked once, and first.
 pub fn play_infinite_lines<'a, F: Folder, S: Source>(
     alloc: Global,
     file: &'a str,
@@ -63,10 +62,10 @@ pub fn play_infinite_lines<'a, F: Folder, S: Source>(
         (failed (S.failures input.old) (F.failed_reads folder.old))
         (failed (S.failures input.new) (F.failed_reads folder.new))) }
 {
-    match shown(alloc, Some(file), limit, folder, input)? {
-        Ok(shown) => {
+    match found(alloc, Some(file), limit, folder, input)? {
+        Ok(found) => {
             let lines = input_lines(alloc, input)?;
-            let said = lines_answers(alloc, &shown, &lines)?;
+            let said = lines_answers(alloc, &found, &lines)?;
             Ok(said)
         }
         Err(no) => Ok(Said::no(no)),

@@ -2,18 +2,15 @@
 ghost use Rattle.std.specs.Prelude.{◌≡◌, true, false, IfOk, IfErr, IsErrOf, is_none, is_some, option_map};
 ghost use Rattle.check_command.specs.Checks.{AreGiven, failed};
 ghost use Rattle.infinite_player.specs.Plays.{SpeaksOf};
-ghost use Rattle.infinite_command.specs.Plays.{AnswersIn, PlaysEither, PlaysIn, PlaysInfinite};
+ghost use Rattle.infinite_command.specs.Plays.{AnswersIn, PlaysFound, PlaysIn, PlaysInfinite, PlaysTracked};
 ghost use Rattle.play_command.specs.Plays.{IsPlayCause};
 
-use crate::checking::judged;
-use crate::whole::{begins_whole, whole_played};
-use allocation::Memory;
-use check_command::given_bytes;
+use crate::checking::{ShownText, found};
 use command_results::{Said, Stop};
 use folders::Folder;
 use infinite_answers::Infinite;
 use infinite_player::{answer, fits};
-use play_command::{answer_text, beyond, position_of};
+use play_command::{answer_text, beyond, position_of, whole_played};
 use positions::Position;
 use std::alloc::{AllocError, Global};
 use streams::Source;
@@ -29,12 +26,8 @@ fn answered(alloc: Global, shown: &Infinite, position: &Position) -> Result<Said
 }
 
 /// The line of the answer in the position, or that the certificate doesn't speak of it.
-pub(crate) fn played(
-    alloc: Global,
-    shown: &Infinite,
-    position: &Position,
-) -> Result<Said, AllocError>
-    ensures { IfOk result (λ s. PlaysIn shown.now position.now s.text.items s.succeeds) }
+fn tracked_played(alloc: Global, shown: &Infinite, position: &Position) -> Result<Said, AllocError>
+    ensures { IfOk result (λ s. PlaysTracked shown.now position.now s.text.items s.succeeds) }
 {
     if fits(shown, position) {
         answered(alloc, shown, position)
@@ -43,16 +36,30 @@ pub(crate) fn played(
     }
 }
 
-/// What is said in the position by bytes: of a whole game, by their first word, or else of a certificate
-/// with tracks.
-fn played_by(alloc: Global, bytes: &[u8], position: &Position, limit: u32) -> Result<Said, Memory>
-    ensures { IfOk result (λ s. PlaysEither bytes.now position.now s.text.items s.succeeds) }
+/// What is said in the position by what was found.
+pub(crate) fn played(
+    alloc: Global,
+    found: &ShownText,
+    position: &Position,
+) -> Result<Said, AllocError>
+    ensures { IfOk result (λ s. PlaysIn found.now position.now s.text.items s.succeeds) }
 {
-    if begins_whole(bytes) {
-        return whole_played(alloc, bytes, position);
+    match found {
+        ShownText::Tracked(shown) => tracked_played(alloc, shown, position),
+        ShownText::Whole(game) => whole_played(alloc, game, position),
     }
-    match judged(alloc, bytes, limit)? {
-        Ok(shown) => Ok(played(alloc, &shown, position)?),
+}
+
+/// The same, or the text of a no.
+fn said_in(
+    alloc: Global,
+    found: Result<ShownText, Vec<u8>>,
+    position: &Position,
+) -> Result<Said, AllocError>
+    ensures { IfOk result (λ s. PlaysFound found position.now s.text.items s.succeeds) }
+{
+    match found {
+        Ok(found) => played(alloc, &found, position),
         Err(no) => Ok(Said::no(no)),
     }
 }
@@ -82,9 +89,9 @@ pub fn play_infinite<'a, F: Folder, S: Source>(
         → folder.new ≡ folder.old }
 {
     let position = position_of(alloc, position)?;
-    let bytes = given_bytes(alloc, file, folder, input)?;
-    match played_by(alloc, &bytes, &position, limit) {
+    let found = found(alloc, file, limit, folder, input)?;
+    match said_in(alloc, found, &position) {
         Ok(said) => Ok(said),
-        Err(Memory) => Err(Stop::Memory),
+        Err(_) => Err(Stop::Memory),
     }
 }

@@ -2,17 +2,19 @@
 ghost use Rattle.std.specs.Prelude.{◌≡◌, false, IfOk, IfErr, is_none, is_some, option_map, true};
 ghost use Rattle.check_command.specs.Checks.{AreGiven, IsGivenCause, failed};
 ghost use Rattle.infinite_descriptions.specs.Described.{IsDescription};
+ghost use Rattle.infinite_descriptions.specs.Whole.{IsWholeText};
 ghost use Rattle.infinite_command.specs.Shown.{ShowsFound, ShowsInfinite, output_for};
 
-use crate::checking::shown;
+use crate::checking::{ShownText, found};
 use allocation::Memory;
 use command_results::{Said, Stop};
 use folders::Folder;
 use infinite_answers::Infinite;
-use infinite_descriptions::{Output, described};
+use infinite_descriptions::{Output, described, whole_text};
 use requests::Layout;
 use std::alloc::Global;
 use streams::Source;
+use whole_checker::WholeGame;
 
 /// For whom the text is.
 fn output_for(layout: Layout) -> Output
@@ -37,18 +39,28 @@ fn quotient_said(alloc: Global, shown: &Infinite, layout: Layout) -> Result<Said
     })
 }
 
+/// What is said of a whole game.
+fn game_said(alloc: Global, game: &WholeGame) -> Result<Said, Memory>
+    ensures text { IfOk result (λ s. IsWholeText game.now s.text.items) }
+    ensures succeeds { IfOk result (λ s. s.succeeds ≡ true) }
+{
+    Ok(Said::done(whole_text(alloc, game)?))
+}
+
 /// What is said of what was found.
-fn said_of(alloc: Global, found: Result<Infinite, Vec<u8>>, layout: Layout) -> Result<Said, Memory>
+fn said_of(alloc: Global, found: Result<ShownText, Vec<u8>>, layout: Layout) -> Result<Said, Memory>
     ensures { IfOk result (λ s. ShowsFound layout found s.text.items s.succeeds) }
 {
     match found {
-        Ok(shown) => quotient_said(alloc, &shown, layout),
+        Ok(ShownText::Tracked(shown)) => quotient_said(alloc, &shown, layout),
+        Ok(ShownText::Whole(game)) => game_said(alloc, &game),
         Err(no) => Ok(Said::no(no)),
     }
 }
 
 /// The infinite quotient that the file, or standard input where no file is named, shows under the
-/// limit: all that its certificate says, in lines, for LaTeX or as JSON; or else why it shows none.
+/// limit: all that its certificate says, in lines, for LaTeX or as JSON; that of a whole game in lines
+/// alone. Or else why it shows none.
 pub fn show_infinite<'a, F: Folder, S: Source>(
     alloc: Global,
     file: Option<&'a str>,
@@ -68,7 +80,7 @@ pub fn show_infinite<'a, F: Folder, S: Source>(
     ensures folder { is_some (option_map (λ f. f.now) file.entry) ≡ false
         → folder.new ≡ folder.old }
 {
-    let found = shown(alloc, file, limit, folder, input)?;
+    let found = found(alloc, file, limit, folder, input)?;
     match said_of(alloc, found, layout) {
         Ok(said) => Ok(said),
         Err(Memory) => Err(Stop::Memory),

@@ -8,3 +8,4 @@ pub mod Plain
 pub mod Latex
 pub mod Json
 pub mod Described
+pub mod Whole

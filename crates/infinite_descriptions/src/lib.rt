@@ -1,4 +1,5 @@
-//! What a certificate of an infinite quotient says, in a text for readers, for LaTeX and as JSON.
+//! What a certificate of an infinite quotient says, in a text for readers, for LaTeX and as JSON; and what a
+//! text of a whole game says, for readers.
 #![tactic(auto)]
 
 mod counts;
@@ -15,7 +16,9 @@ mod plain;
 mod regions;
 mod sums;
 mod tables;
+mod whole;
 
 pub use describing::{Output, described};
 pub use families::printed_places_are_right;
 pub use head::{quotient_text, yes_text};
+pub use whole::whole_text;

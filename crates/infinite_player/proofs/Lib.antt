@@ -1,3 +1,4 @@
+mod Apart
 mod Folded
 mod InPlane
 mod Inside

@@ -8,8 +8,8 @@ ghost use Rattle.infinite_player.specs.Triples.{IsStopped, IsTripleOf};
 use dominance_certificate::DominanceText;
 use std::alloc::Allocator;
 
-/// Where weights stop: 2^100. No lead is so large.
-pub(crate) const LARGEST_SUM: u128 = 1_267_650_600_228_229_401_496_703_205_376;
+/// Where weights stop: 2^100. No lead is so large, and no position of 64 heaps is so heavy.
+pub const LARGEST_SUM: u128 = 1_267_650_600_228_229_401_496_703_205_376;
 
 /// A parity, a weight and a lead. A weight that is too large stops, but for its parity, at a number
 /// above all leads: there it is as good.

@@ -1,11 +1,11 @@
 -- Lines that are answered as positions.
 use Rattle.std.proofs.Common.{◌≡◌, ◌≢◌, ◌↔◌, ℕ, Bool, List, [], ◌++◌, Result, Ok, Err, IfOk, inl, inr}
-use Rattle.misere_theory.specs.Certificates.{Certificate}
 use Rattle.positions.specs.Text.{HasTooLarge, HasTooMany, IsNoPositionText, IsTextOf}
 use Rattle.positions.specs.declared.fault.PositionFault.{PositionFault}
 use Rattle.positions.specs.declared.fault.PositionFault.TheVariants.{Text, TooMany, TooLarge}
 use Rattle.positions.specs.declared.position.TheConstants.{MOST_SIZES, LARGEST_HEAP}
 use Rattle.command_results.specs.declared.said.Said.{Said}
+use Rattle.given_quotients.specs.declared.giving.Quotient.{Quotient}
 use Rattle.play_command.specs.Plays.{IsNoPosition, PlaysIn}
 use Rattle.play_command.specs.Many.{AnswersLine}
 use Rattle.play_command.specs.Many.AnswersLine.{InPosition}
@@ -20,9 +20,9 @@ is_position line r X is text many large (inr (inl none)) = let fails = many.1 no
 is_position line r X is text many large (inr (inr none)) = let fails = large.1 none in cc
 
 -- what is said in a position is said of its line
-pub in_position : {E : Type 0} (c : Certificate) (line X : List ℕ) (r : Result Said E)
+pub in_position : {E : Type 0} (q : Quotient) (line X : List ℕ) (r : Result Said E)
     → IsTextOf line X → (IsNoPosition line → ⊥)
-    → IfOk r (λ s. PlaysIn c X s.text.items s.succeeds)
-    → IfOk r (λ s. AnswersLine c line s.text.items s.succeeds)
-in_position c line X (Ok s) read some plays = InPosition X read some plays
-in_position c line X (Err e) read some plays = tt
+    → IfOk r (λ s. PlaysIn q X s.text.items s.succeeds)
+    → IfOk r (λ s. AnswersLine q line s.text.items s.succeeds)
+in_position q line X (Ok s) read some plays = InPosition X read some plays
+in_position q line X (Err e) read some plays = tt

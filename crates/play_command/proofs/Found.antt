@@ -1,40 +1,37 @@
 -- What is said in a position, from what was found.
-use Rattle.std.proofs.Common.{◌≡◌, ◌≤◌, length, sym, subst, ℕ, Bool, true, false, List, Result, Ok, Err, Vec, inl, inr}
-use Rattle.misere_theory.specs.Certificates.{Certificate}
+use Rattle.std.proofs.Common.{◌≡◌, ◌≤◌, length, sym, subst, ℕ, Bool, List, Result, Ok, Err, Vec, false, inl, inr}
 use Rattle.positions.specs.Text.{IsTextOf}
-use Rattle.check_command.specs.Checks.{Finds, Checks}
 use Rattle.command_results.specs.Lines.{AnswersLines}
 use Rattle.command_results.specs.declared.lines.TheConstants.{LARGEST_INPUT}
+use Rattle.given_quotients.specs.Given.{FindsQuotient, Refuses}
+use Rattle.given_quotients.specs.declared.giving.Quotient.{Quotient}
 use Rattle.play_command.specs.Many.{AnswersLine, PlaysLines}
-use Rattle.play_command.specs.Many.PlaysLines.{Quotient, NoQuotient}
+use Rattle.play_command.specs.Many.PlaysLines.{ByQuotient, NoQuotient}
 use Rattle.play_command.specs.Plays.{Plays, PlaysFound}
 
 pub plays_found : {A : Type 0} (Are : List ℕ → Type 0) (limit : ℕ) (position : List ℕ)
-    (q : Result Certificate (Vec ℕ A)) (X text : List ℕ) (succeeds : Bool)
-    → Finds Are limit q → IsTextOf position X → PlaysFound q X text succeeds
+    (q : Result Quotient (Vec ℕ A)) (X text : List ℕ) (succeeds : Bool)
+    → FindsQuotient Are limit q → IsTextOf position X → PlaysFound q X text succeeds
     → Plays Are limit position text succeeds
-plays_found Are limit position (Ok c) X text true f read h = (c, f, (X, read, h.0, h.1))
-plays_found Are limit position (Ok c) X text false f read h = inr (c, f, (X, read, h))
+plays_found Are limit position (Ok q) X text succeeds f read h = inl (q, f, (X, read, h))
 plays_found Are limit position (Err said) X text succeeds f read h =
-    subst (λ (b : Bool). Plays Are limit position text b) (sym h.1)
-    (inl (subst (λ (t : List ℕ). Checks Are limit t false) (sym h.0) f))
+    inr (subst (λ (t : List ℕ). Refuses Are limit t) (sym h.0) f, h.1)
 
 pub plays_quotient : {A : Type 0} (Are AreLines : List ℕ → Type 0) (limit : ℕ)
-    (q : Result Certificate (Vec ℕ A)) (c : Certificate) (lines read text : List ℕ)
-    (succeeds : Bool)
-    → Finds Are limit q → q ≡ Ok c → AreLines lines → length lines ≤ LARGEST_INPUT → read ≡ lines
-    → AnswersLines (AnswersLine c) read text succeeds → PlaysLines Are limit AreLines text succeeds
-plays_quotient {A = A} Are AreLines limit q c lines read text succeeds found is given few same says =
-    Quotient c lines (subst (λ (r : Result Certificate (Vec ℕ A)). Finds Are limit r) is found) given
-    few
-    (subst (λ (l : List ℕ). AnswersLines (AnswersLine c) l text succeeds) same says)
+    (found : Result Quotient (Vec ℕ A)) (q : Quotient) (lines read text : List ℕ) (succeeds : Bool)
+    → FindsQuotient Are limit found → found ≡ Ok q → AreLines lines → length lines ≤ LARGEST_INPUT
+    → read ≡ lines → AnswersLines (AnswersLine q) read text succeeds
+    → PlaysLines Are limit AreLines text succeeds
+plays_quotient {A = A} Are AreLines limit found q lines read text succeeds f is given few same says =
+    ByQuotient q lines (subst (λ (r : Result Quotient (Vec ℕ A)). FindsQuotient Are limit r) is f) given few
+    (subst (λ (l : List ℕ). AnswersLines (AnswersLine q) l text succeeds) same says)
 
 pub plays_no : {A : Type 0} (Are AreLines : List ℕ → Type 0) (limit : ℕ)
-    (q : Result Certificate (Vec ℕ A)) (said : Vec ℕ A) (text : List ℕ) (succeeds : Bool)
-    → Finds Are limit q → q ≡ Err said → text ≡ said.items → succeeds ≡ false
+    (found : Result Quotient (Vec ℕ A)) (said : Vec ℕ A) (text : List ℕ) (succeeds : Bool)
+    → FindsQuotient Are limit found → found ≡ Err said → text ≡ said.items → succeeds ≡ false
     → PlaysLines Are limit AreLines text succeeds
-plays_no {A = A} Are AreLines limit q said text succeeds found is same fails =
+plays_no {A = A} Are AreLines limit found said text succeeds f is same fails =
     NoQuotient
-    (subst (λ (t : List ℕ). Checks Are limit t false) (sym same)
-    (subst (λ (r : Result Certificate (Vec ℕ A)). Finds Are limit r) is found))
+    (subst (λ (t : List ℕ). Refuses Are limit t) (sym same)
+    (subst (λ (r : Result Quotient (Vec ℕ A)). FindsQuotient Are limit r) is f))
     fails

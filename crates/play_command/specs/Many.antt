@@ -1,13 +1,14 @@
--- What is said in the positions of many lines, by the quotient that a file certifies, and why
+-- What is said in the positions of many lines, by the quotient that a file gives, and why
 -- nothing is. This project's own.
 use Rattle.std.specs.Prelude.{◌≡◌, ◌≤◌, ◌⊎◌, ℕ, Bool, false, List, Option, Some, None, length}
-use Rattle.misere_theory.specs.Certificates.{Certificate}
 use Rattle.positions.specs.Text.{IsTextOf}
-use Rattle.check_command.specs.Checks.{AreGiven, Certifies, Checks, Failed}
+use Rattle.check_command.specs.Checks.{AreGiven, Failed}
 use Rattle.command_results.specs.Lines.{AnswersLines, IsLinesCause}
 use Rattle.command_results.specs.Stops.{IsFileCause}
 use Rattle.command_results.specs.declared.lines.TheConstants.{LARGEST_INPUT}
 use Rattle.command_results.specs.declared.stop.Stop.{Stop}
+use Rattle.given_quotients.specs.Given.{Gives, Refuses}
+use Rattle.given_quotients.specs.declared.giving.Quotient.{Quotient}
 use Rattle.play_command.specs.Lines.{no_position_line}
 use Rattle.play_command.specs.Plays.{IsNoPosition, PlaysIn}
 
@@ -21,20 +22,20 @@ AreFileOf files file = AreGiven None files (Some file)
 
 -- What is said of a line, and whether it has an answer: what is said in its position, or that it is
 -- none.
-pub data AnswersLine (c : Certificate) (line text : List ℕ) (succeeds : Bool) : Type 0 where
-  InPosition : (X : List ℕ) → IsTextOf line X → (IsNoPosition line → ⊥) → PlaysIn c X text succeeds
-      → AnswersLine c line text succeeds
+pub data AnswersLine (q : Quotient) (line text : List ℕ) (succeeds : Bool) : Type 0 where
+  InPosition : (X : List ℕ) → IsTextOf line X → (IsNoPosition line → ⊥) → PlaysIn q X text succeeds
+      → AnswersLine q line text succeeds
   NoPosition : IsNoPosition line → text ≡ no_position_line → succeeds ≡ false
-      → AnswersLine c line text succeeds
+      → AnswersLine q line text succeeds
 
--- What is said of the lines that are given, by the quotient that such bytes certify under the
+-- What is said of the lines that are given, by the quotient that such bytes give under the
 -- limit; or that of a true no, whatever the lines are.
 pub data PlaysLines (Are : List ℕ → Type 0) (limit : ℕ) (AreLines : List ℕ → Type 0)
     (text : List ℕ) (succeeds : Bool) : Type 0 where
-  Quotient : (c : Certificate) (lines : List ℕ) → Certifies Are limit c → AreLines lines
-      → length lines ≤ LARGEST_INPUT → AnswersLines (AnswersLine c) lines text succeeds
+  ByQuotient : (q : Quotient) (lines : List ℕ) → Gives Are limit q → AreLines lines
+      → length lines ≤ LARGEST_INPUT → AnswersLines (AnswersLine q) lines text succeeds
       → PlaysLines Are limit AreLines text succeeds
-  NoQuotient : Checks Are limit text false → succeeds ≡ false
+  NoQuotient : Refuses Are limit text → succeeds ≡ false
       → PlaysLines Are limit AreLines text succeeds
 
 -- ---- why nothing is said

@@ -1,12 +1,16 @@
--- What is said in a position, by the quotient that a file certifies, and why nothing is. This
--- project's own.
-use Rattle.std.specs.Prelude.{◌≡◌, ◌⊎◌, ⊤, ℕ, Bool, true, false, List, Option, Result, Ok, Err, Vec}
+-- What is said in a position, by the quotient that a file gives, and why nothing is. This project's
+-- own.
+use Rattle.std.specs.Prelude.{◌≡◌, ◌-◌, ◌⊎◌, ⊤, ℕ, Bool, true, false, List, Option, Result, Ok, Err, Vec}
 use Rattle.misere_theory.specs.Certificates.{Certificate}
 use Rattle.positions.specs.declared.position.TheConstants.{MOST_SIZES, LARGEST_HEAP}
 use Rattle.positions.specs.Text.{IsNoPositionText, IsTextOf, HasTooMany, HasTooLarge}
-use Rattle.player.specs.Answers.{IsRightAnswer, SpeaksOf}
+use Rattle.player.specs.Answers.{IsRightAnswer, IsTriedAnswer, SpeaksOf}
 use Rattle.player.specs.declared.answering.Answer.{Answer}
-use Rattle.check_command.specs.Checks.{Certifies, Checks, Failed, IsGivenCause}
+use Rattle.check_command.specs.Checks.{Failed, IsGivenCause}
+use Rattle.dominance_text.specs.Said.{DominanceSaid}
+use Rattle.given_quotients.specs.Given.{Gives, Refuses}
+use Rattle.given_quotients.specs.declared.giving.Quotient.{Quotient}
+use Rattle.given_quotients.specs.declared.giving.Quotient.TheVariants.{Finite, Whole}
 use Rattle.command_results.specs.declared.stop.Stop.{Stop}
 use Rattle.command_results.specs.declared.stop.Stop.TheVariants.{Memory, NotAPosition}
 use Rattle.play_command.specs.Lines.{answer_line, beyond_line}
@@ -21,30 +25,33 @@ abbrev pub IsBeyond : Certificate → List ℕ → List ℕ → Type 0
 IsBeyond c X text = (c.period ≡ 0) × (SpeaksOf c X → ⊥) × (text ≡ beyond_line)
 
 -- the answer where the certificate speaks of the position, and else that it doesn't
-abbrev pub PlaysIn : Certificate → List ℕ → List ℕ → Bool → Type 0
-PlaysIn c X text true = SpeaksOf c X × AnswersIn c X text
-PlaysIn c X text false = IsBeyond c X text
+abbrev pub PlaysFinite : Certificate → List ℕ → List ℕ → Bool → Type 0
+PlaysFinite c X text true = SpeaksOf c X × AnswersIn c X text
+PlaysFinite c X text false = IsBeyond c X text
+
+-- The line of the answer in the position of the whole game: a move is the first that wins of those that
+-- leave at most one heap from start on.
+abbrev pub AnswersWhole : DominanceSaid → List ℕ → List ℕ → Type 0
+AnswersWhole c X text =
+    (answer : Answer) × IsTriedAnswer c.code (λ _. c.start - 1) X answer × (text ≡ answer_line answer)
+
+-- what is said in the position by the quotient; a whole game speaks of each
+abbrev pub PlaysIn : Quotient → List ℕ → List ℕ → Bool → Type 0
+PlaysIn (Finite c) X text succeeds = PlaysFinite c X text succeeds
+PlaysIn (Whole c) X text succeeds = AnswersWhole c X text × (succeeds ≡ true)
 
 -- the same where a quotient was found, and the text of a no where none was
-abbrev pub PlaysFound : {A : Type 0} → Result Certificate (Vec ℕ A) → List ℕ → List ℕ → Bool
-    → Type 0
-PlaysFound (Ok c) X text succeeds = PlaysIn c X text succeeds
+abbrev pub PlaysFound : {A : Type 0} → Result Quotient (Vec ℕ A) → List ℕ → List ℕ → Bool → Type 0
+PlaysFound (Ok q) X text succeeds = PlaysIn q X text succeeds
 PlaysFound (Err said) X text succeeds = (text ≡ said.items) × (succeeds ≡ false)
 
--- a quotient that such bytes certify under the limit doesn't speak of the position
-abbrev pub PlaysBeyond : (List ℕ → Type 0) → ℕ → List ℕ → List ℕ → Type 0
-PlaysBeyond Are limit position text =
-    (c : Certificate) × Certifies Are limit c
-    × ((X : List ℕ) × IsTextOf position X × IsBeyond c X text)
-
--- The answer in the position, of which the quotient speaks that such bytes certify under the limit,
--- is right in its game; or the text says that it speaks not of it, or is that of a true no.
+-- What is said in the position by the quotient that such bytes give under the limit: the right answer in
+-- its game, or that it speaks not of the position. Or they give none, and the text is that of a true no.
 abbrev pub Plays : (List ℕ → Type 0) → ℕ → List ℕ → List ℕ → Bool → Type 0
-Plays Are limit position text true =
-    (c : Certificate) × Certifies Are limit c
-    × ((X : List ℕ) × IsTextOf position X × SpeaksOf c X × AnswersIn c X text)
-Plays Are limit position text false =
-    Checks Are limit text false ⊎ PlaysBeyond Are limit position text
+Plays Are limit position text succeeds =
+    ((q : Quotient) × Gives Are limit q
+    × ((X : List ℕ) × IsTextOf position X × PlaysIn q X text succeeds))
+    ⊎ (Refuses Are limit text × (succeeds ≡ false))
 
 -- the text is not that of at most 64 sizes up to 10^18
 abbrev pub IsNoPosition : List ℕ → Type 0

@@ -1,4 +1,4 @@
-//! `play`: the answers in positions, by the quotient that a file certifies.
+//! `play`: the answers in positions, by the quotient that a file gives: a finite one, or that of a whole game.
 #![tactic(auto)]
 
 mod lines;
@@ -7,4 +7,4 @@ mod playing;
 
 pub use lines::answer_text;
 pub use many::{no_position, play_lines};
-pub use playing::{beyond, play, position_of};
+pub use playing::{beyond, play, position_of, whole_played};

@@ -6,10 +6,9 @@ ghost use Rattle.play_command.specs.Lines.{no_position_line};
 ghost use Rattle.play_command.specs.Many.{AnswersLine, AreFileOf, IsPlayLinesCause, PlaysLines};
 
 use crate::playing::played;
-use answers::Certified;
-use check_command::certified;
 use command_results::{Said, Stop, first_line, input_lines};
 use folders::Folder;
+use given_quotients::{Quotient, quotient_of};
 use positions::{Position, PositionFault};
 use std::alloc::{AllocError, Global};
 use streams::Source;
@@ -24,11 +23,11 @@ pub fn no_position(alloc: Global) -> Result<Said, AllocError>
 }
 
 /// What is said of a line: what `play` says in its position, or that it is none.
-fn line_answer(alloc: Global, certified: &Certified, line: &[u8]) -> Result<Said, AllocError>
-    ensures { IfOk result (λ s. AnswersLine certified.now line.now s.text.items s.succeeds) }
+fn line_answer(alloc: Global, quotient: &Quotient, line: &[u8]) -> Result<Said, AllocError>
+    ensures { IfOk result (λ s. AnswersLine quotient.now line.now s.text.items s.succeeds) }
 {
     match Position::read(alloc, line) {
-        Ok(position) => played(alloc, certified, &position),
+        Ok(position) => played(alloc, quotient, &position),
         Err(PositionFault::Memory) => Err(AllocError),
         Err(PositionFault::Text | PositionFault::TooMany | PositionFault::TooLarge) => {
             no_position(alloc)
@@ -37,15 +36,15 @@ fn line_answer(alloc: Global, certified: &Certified, line: &[u8]) -> Result<Said
 }
 
 /// What is said of each line, one behind the other; it ends well where each line has an answer.
-fn lines_answers(alloc: Global, certified: &Certified, lines: &[u8]) -> Result<Said, AllocError>
-    ensures { IfOk result (λ s. AnswersLines (AnswersLine certified.now) lines.now s.text.items s.succeeds) }
+fn lines_answers(alloc: Global, quotient: &Quotient, lines: &[u8]) -> Result<Said, AllocError>
+    ensures { IfOk result (λ s. AnswersLines (AnswersLine quotient.now) lines.now s.text.items s.succeeds) }
 {
     let mut text = Vec::new(alloc);
     let mut succeeds = true;
     let mut rest = lines;
     while !rest.is_empty() {
         let (line, behind) = first_line(rest);
-        let said = line_answer(alloc, certified, line)?;
+        let said = line_answer(alloc, quotient, line)?;
         text.extend_from_slice(&said.text)?;
         succeeds = succeeds && said.succeeds;
         rest = behind;
@@ -53,10 +52,10 @@ fn lines_answers(alloc: Global, certified: &Certified, lines: &[u8]) -> Result<S
     Ok(Said { text, succeeds })
 }
 
-/// Answers in the position of each line of standard input by the quotient that the file certifies
+/// Answers in the position of each line of standard input by the quotient that the file gives
 /// under the limit, as [`play`](crate::play) does in one; of a line that is no position it says so.
-/// It ends well where each line has an answer. Or it says why the file certifies no quotient, and
-/// standard input is left alone. The certificate is checked once, and first.
+/// It ends well where each line has an answer. Or it says why the file gives no quotient, and
+/// standard input is left alone. The file's text is checked once, and first.
 pub fn play_lines<'a, F: Folder, S: Source>(
     alloc: Global,
     file: &'a str,
@@ -71,10 +70,10 @@ pub fn play_lines<'a, F: Folder, S: Source>(
         (failed (S.failures input.old) (F.failed_reads folder.old))
         (failed (S.failures input.new) (F.failed_reads folder.new))) }
 {
-    match certified(alloc, Some(file), limit, folder, input)? {
-        Ok(certified) => {
+    match quotient_of(alloc, Some(file), limit, folder, input)? {
+        Ok(quotient) => {
             let lines = input_lines(alloc, input)?;
-            let said = lines_answers(alloc, &certified, &lines)?;
+            let said = lines_answers(alloc, &quotient, &lines)?;
             Ok(said)
         }
         Err(no) => Ok(Said::no(no)),

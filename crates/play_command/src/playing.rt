@@ -4,17 +4,19 @@ ghost use Rattle.check_command.specs.Checks.{AreGiven, failed};
 ghost use Rattle.positions.specs.Text.{IsTextOf};
 ghost use Rattle.player.specs.Answers.{SpeaksOf};
 ghost use Rattle.play_command.specs.Lines.{beyond_line};
-ghost use Rattle.play_command.specs.Plays.{AnswersIn, IsPlayCause, IsPositionCause, Plays, PlaysFound, PlaysIn};
+ghost use Rattle.play_command.specs.Plays.{AnswersIn, AnswersWhole, IsPlayCause, IsPositionCause, Plays, PlaysFinite, PlaysFound, PlaysIn};
 
 use crate::lines::{answer_text, beyond_text};
 use answers::Certified;
-use check_command::certified;
 use command_results::{Said, Stop};
 use folders::Folder;
+use given_quotients::{Quotient, quotient_of};
+use infinite_player::whole_answer;
 use player::{answer, fits};
 use positions::{Position, PositionFault};
 use std::alloc::{AllocError, Global};
 use streams::Source;
+use whole_checker::WholeGame;
 
 /// The position of the text.
 pub fn position_of(alloc: Global, text: &str) -> Result<Position, Stop<'static>>
@@ -49,12 +51,12 @@ pub fn beyond(alloc: Global) -> Result<Said, AllocError>
 }
 
 /// The line of the answer in the position, or that the certificate doesn't speak of it.
-pub(crate) fn played(
+fn finite_played(
     alloc: Global,
     certified: &Certified,
     position: &Position,
 ) -> Result<Said, AllocError>
-    ensures plays { IfOk result (λ s. PlaysIn certified.now position.now s.text.items s.succeeds) }
+    ensures plays { IfOk result (λ s. PlaysFinite certified.now position.now s.text.items s.succeeds) }
     ensures full { 1 ≤ certified.now.period → IfOk result (λ s. s.succeeds ≡ true) }
 {
     if fits(certified, position) {
@@ -64,24 +66,52 @@ pub(crate) fn played(
     }
 }
 
+/// The line of the answer in the position of a whole game.
+pub fn whole_played(
+    alloc: Global,
+    game: &WholeGame,
+    position: &Position,
+) -> Result<Said, AllocError>
+    ensures plays { IfOk result (λ s. AnswersWhole game.now position.now s.text.items) }
+    ensures succeeds { IfOk result (λ s. s.succeeds ≡ true) }
+{
+    let text = answer_text(alloc, whole_answer(game, position))?;
+    Ok(Said::done(text))
+}
+
+/// What is said in the position by the quotient.
+pub(crate) fn played(
+    alloc: Global,
+    quotient: &Quotient,
+    position: &Position,
+) -> Result<Said, AllocError>
+    ensures { IfOk result (λ s. PlaysIn quotient.now position.now s.text.items s.succeeds) }
+{
+    match quotient {
+        Quotient::Finite(certified) => finite_played(alloc, certified, position),
+        Quotient::Whole(game) => whole_played(alloc, game, position),
+    }
+}
+
 /// What is said in the position by what was found.
 fn said_in(
     alloc: Global,
-    quotient: Result<Certified, Vec<u8>>,
+    quotient: Result<Quotient, Vec<u8>>,
     position: &Position,
 ) -> Result<Said, AllocError>
     ensures { IfOk result (λ s. PlaysFound quotient position.now s.text.items s.succeeds) }
 {
     match quotient {
-        Ok(certified) => played(alloc, &certified, position),
+        Ok(quotient) => played(alloc, &quotient, position),
         Err(no) => Ok(Said::no(no)),
     }
 }
 
-/// Answers in the position by the quotient that the file, or standard input where no file is named,
-/// certifies under the limit: with the first
-/// winning move, that each move loses, or that there is none; or says that a partial quotient doesn't
-/// speak of the position, or why there is none. The position is read first.
+/// Answers in the position by the quotient that the file, or standard input where no file is named, gives
+/// under the limit: with the first winning move, that each move loses, or that there is none; or says that
+/// a partial quotient doesn't speak of the position, or why there is none. Of a whole game, which speaks of
+/// every position, the first is meant of the moves that leave at most one heap from start on. The position
+/// is read first.
 pub fn play<'a, F: Folder, S: Source>(
     alloc: Global,
     file: Option<&'a str>,
@@ -103,7 +133,7 @@ pub fn play<'a, F: Folder, S: Source>(
         → folder.new ≡ folder.old }
 {
     let position = position_of(alloc, position)?;
-    let quotient = certified(alloc, file, limit, folder, input)?;
+    let quotient = quotient_of(alloc, file, limit, folder, input)?;
     match said_in(alloc, quotient, &position) {
         Ok(said) => Ok(said),
         Err(_) => Err(Stop::Memory),

@@ -8,7 +8,7 @@ use Rattle.misere_theory.specs.Quotients.{Claim, value}
 use Rattle.misere_theory.proofs.Outcomes.{determined}
 use Rattle.misere_theory.proofs.Sums.{IsPosition-append, value_in, value-append}
 use Rattle.positions.specs.declared.outcome.Outcome.{Outcome}
-use Rattle.positions.specs.declared.outcome.Outcome.TheVariants.{P, N}
+use Rattle.positions.specs.declared.outcome.Outcome.TheVariants.{P}
 
 same_if_not_other : (a b : Bool) → (a ≢ b → ⊥) → a ≡ b
 same_if_not_other true true h = refl

@@ -1,10 +1,12 @@
 -- What tells two positions apart. This project's own.
-use Rattle.std.specs.Prelude.{◌≡◌, ◌≢◌, ◌≤◌, ◌↔◌, ℕ, List, ◌++◌, length}
+use Rattle.std.specs.Prelude.{◌≡◌, ◌≢◌, ◌≤◌, ◌↔◌, ◌⊎◌, ℕ, Bool, true, false, List, ◌++◌, length}
 use Rattle.misere_theory.specs.Certificates.{Certificate, IsHeapOf}
-use Rattle.misere_theory.specs.Games.{Indistinguishable, IsP, IsPosition}
+use Rattle.misere_theory.specs.Games.{Indistinguishable, IsHeap, IsP, IsPosition}
 use Rattle.positions.specs.Outcomes.{HasOutcome}
 use Rattle.positions.specs.declared.outcome.Outcome.{Outcome}
-use Rattle.position_commands.specs.Lines.{alike_line, apart_line}
+use Rattle.dominance_text.specs.Said.{DominanceSaid}
+use Rattle.infinite_player.specs.Told.{AreApartBy, IsHeavy}
+use Rattle.position_commands.specs.Lines.{alike_line, apart_line, heavy_line, untried_line}
 
 -- X and Y are indistinguishable, and the text says so. Or Z tells them apart: the outcomes of X + Z and
 -- Y + Z differ, and the text has Z and both. No position of fewer heaps tells X and Y apart.
@@ -15,3 +17,15 @@ pub data SaysApart (c : Certificate) (X Y text : List ℕ) : Type 0 where
       → ((W : List ℕ) → IsPosition (IsHeapOf c) W
       → (IsP c.code (X ++ W) ↔ IsP c.code (Y ++ W) → ⊥) → length Z ≤ length W)
       → text ≡ apart_line Z first second → SaysApart c X Y text
+
+-- The same in a whole game, where Z may have more heaps than is needed. Or X and Y aren't indistinguishable,
+-- and the text says so without a Z; or one of them is heavy.
+pub data SaysApartOfWhole (c : DominanceSaid) (X Y text : List ℕ) (succeeds : Bool) : Type 0 where
+  Alike : Indistinguishable IsHeap c.code X Y → text ≡ alike_line → succeeds ≡ true
+      → SaysApartOfWhole c X Y text succeeds
+  Apart : (Z : List ℕ) (first second : Outcome) → AreApartBy c.code X Y Z first second
+      → text ≡ apart_line Z first second → succeeds ≡ true → SaysApartOfWhole c X Y text succeeds
+  Untried : (Indistinguishable IsHeap c.code X Y → ⊥) → text ≡ untried_line → succeeds ≡ true
+      → SaysApartOfWhole c X Y text succeeds
+  Heavy : IsHeavy c X ⊎ IsHeavy c Y → text ≡ heavy_line → succeeds ≡ false
+      → SaysApartOfWhole c X Y text succeeds

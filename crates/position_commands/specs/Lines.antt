@@ -1,5 +1,6 @@
 -- What is printed of positions. This project's own.
-use Rattle.std.specs.Prelude.{ℕ, List, ◌++◌, codes, decimal}
+use Rattle.std.specs.Prelude.{ℕ, List, ◌++◌, codes, decimal, if◌then◌else◌}
+use Rattle.dominance.specs.Triples.{Triple}
 use Rattle.positions.specs.Text.{position_text}
 use Rattle.positions.specs.declared.outcome.Outcome.{Outcome}
 use Rattle.positions.specs.declared.outcome.Outcome.TheVariants.{P, N}
@@ -13,6 +14,12 @@ abbrev pub value_line : ℕ → Outcome → List ℕ → List ℕ
 value_line e outcome sizes = codes "element " ++ decimal e ++ codes " " ++ outcome_letter outcome
     ++ codes " " ++ position_text sizes ++ codes "\n"
 
+-- a triple, and its outcome
+abbrev pub triple_line : Triple → Outcome → List ℕ
+triple_line t outcome = codes "odd " ++ decimal (if t.odd then 1 else 0) ++ codes " weight "
+    ++ decimal t.weight ++ codes " lead " ++ decimal t.lead ++ codes " " ++ outcome_letter outcome
+    ++ codes "\n"
+
 -- a position, and the outcomes of the two sums with it
 abbrev pub apart_line : List ℕ → Outcome → Outcome → List ℕ
 apart_line sizes first second = codes "apart " ++ position_text sizes ++ codes " "
@@ -20,6 +27,14 @@ apart_line sizes first second = codes "apart " ++ position_text sizes ++ codes "
 
 abbrev pub alike_line : List ℕ
 alike_line = codes "indistinguishable\n"
+
+-- the line of two positions that aren't, if no third position is named
+abbrev pub untried_line : List ℕ
+untried_line = codes "distinguishable\n"
+
+-- the line of a position that is too heavy
+abbrev pub heavy_line : List ℕ
+heavy_line = codes "a weight of 2^100 or more\n"
 
 -- the line if there may be too many options of a heap
 abbrev pub many_line : List ℕ

@@ -1,5 +1,4 @@
--- What is said of positions by the quotient that a file certifies, or why nothing is. This project's
--- own.
+-- What is said of positions by the quotient that a file gives, or why nothing is. This project's own.
 use Rattle.std.specs.Prelude.{◌≡◌, ◌⊎◌, ℕ, Bool, true, false, List, Option, Result, Ok, Err, Vec}
 use Rattle.misere_theory.specs.Certificates.{Certificate}
 use Rattle.positions.specs.Text.{IsTextOf}
@@ -9,11 +8,13 @@ use Rattle.command_results.specs.declared.stop.Stop.{Stop}
 use Rattle.command_results.specs.declared.stop.Stop.TheVariants.{NotAPosition}
 use Rattle.play_command.specs.Lines.{beyond_line}
 use Rattle.play_command.specs.Plays.{IsNoPosition}
-use Rattle.position_commands.specs.Apart.{SaysApart}
-use Rattle.position_commands.specs.Values.{TellsValue}
+use Rattle.dominance_text.specs.Said.{DominanceSaid}
+use Rattle.given_quotients.specs.Given.{Gives, Refuses}
+use Rattle.given_quotients.specs.declared.giving.Quotient.{Quotient}
+use Rattle.given_quotients.specs.declared.giving.Quotient.TheVariants.{Finite, Whole}
+use Rattle.position_commands.specs.Apart.{SaysApart, SaysApartOfWhole}
+use Rattle.position_commands.specs.Values.{TellsValue, TellsWholeValue}
 use Rattle.position_commands.specs.Wins.{TellsWins}
-use Rattle.position_commands.specs.declared.asking.Question.{Question}
-use Rattle.position_commands.specs.declared.asking.Question.TheVariants.{Element, Wins}
 
 -- `Speaks` says of a certificate that it speaks of the positions that are asked about, and `Answers` that
 -- a text answers by it, and whether it ends well.
@@ -36,23 +37,44 @@ module _ (Speaks : Certificate → Type 0) (Answers : Certificate → List ℕ �
       ((c : Certificate) × Certifies Are limit c × SaysBy c text succeeds)
       ⊎ (Checks Are limit text false × (succeeds ≡ false))
 
--- the text answers the question about the position
-abbrev pub TellsOf : Question → List ℕ → Certificate → List ℕ → Bool → Type 0
-TellsOf Element X c text succeeds = TellsValue c X text × (succeeds ≡ true)
-TellsOf Wins X c text succeeds = TellsWins c X text succeeds
+-- `InFinite` and `InWhole` say what is said by a quotient of either kind.
+module _ (InFinite : Certificate → List ℕ → Bool → Type 0)
+    (InWhole : DominanceSaid → List ℕ → Bool → Type 0) where
+  abbrev pub SaysOf : Quotient → List ℕ → Bool → Type 0
+  SaysOf (Finite c) text succeeds = InFinite c text succeeds
+  SaysOf (Whole c) text succeeds = InWhole c text succeeds
 
--- what is said to the question about the position that the word spells
-abbrev pub Asks : (List ℕ → Type 0) → ℕ → Question → List ℕ → List ℕ → Bool → Type 0
-Asks Are limit question position text succeeds =
+  -- the same if a quotient was found, and the text of a no if none was
+  abbrev pub SaysFoundOf : {A : Type 0} → Result Quotient (Vec ℕ A) → List ℕ → Bool → Type 0
+  SaysFoundOf (Ok q) text succeeds = SaysOf q text succeeds
+  SaysFoundOf (Err said) text succeeds = (text ≡ said.items) × (succeeds ≡ false)
+
+  -- the same by the quotient that such bytes give under the limit, or the text of a true no
+  abbrev pub SaysGivenOf : (List ℕ → Type 0) → ℕ → List ℕ → Bool → Type 0
+  SaysGivenOf Are limit text succeeds =
+      ((q : Quotient) × Gives Are limit q × SaysOf q text succeeds)
+      ⊎ (Refuses Are limit text × (succeeds ≡ false))
+
+-- the element of the position that the word spells
+abbrev pub AsksValue : (List ℕ → Type 0) → ℕ → List ℕ → List ℕ → Bool → Type 0
+AsksValue Are limit position text succeeds =
     (X : List ℕ) × IsTextOf position X
-    × SaysGiven (λ c. SpeaksOf c X) (TellsOf question X) Are limit text succeeds
+    × SaysGivenOf (λ c. SaysBy (λ d. SpeaksOf d X) (λ d t s. TellsValue d X t × (s ≡ true)) c)
+    (λ c. TellsWholeValue c X) Are limit text succeeds
 
--- what is said of the two positions that the words spell
+-- all winning moves in it, by a finite quotient
+abbrev pub AsksWins : (List ℕ → Type 0) → ℕ → List ℕ → List ℕ → Bool → Type 0
+AsksWins Are limit position text succeeds =
+    (X : List ℕ) × IsTextOf position X
+    × SaysGiven (λ c. SpeaksOf c X) (λ c. TellsWins c X) Are limit text succeeds
+
+-- what tells the two positions apart that the words spell
 abbrev pub AsksOfTwo : (List ℕ → Type 0) → ℕ → List ℕ → List ℕ → List ℕ → Bool → Type 0
 AsksOfTwo Are limit first second text succeeds =
     (X Y : List ℕ) × IsTextOf first X × IsTextOf second Y
-    × SaysGiven (λ c. SpeaksOf c X × SpeaksOf c Y) (λ c t s. SaysApart c X Y t × (s ≡ true))
-    Are limit text succeeds
+    × SaysGivenOf
+    (λ c. SaysBy (λ d. SpeaksOf d X × SpeaksOf d Y) (λ d t s. SaysApart d X Y t × (s ≡ true)) c)
+    (λ c. SaysApartOfWhole c X Y) Are limit text succeeds
 
 -- a certificate isn't read, for its own cause, or one of the words is no position
 abbrev pub IsApartCause : Option (List ℕ) → List ℕ → List ℕ → Failed → Failed → Stop → Type 0

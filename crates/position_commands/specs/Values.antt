@@ -1,11 +1,15 @@
 -- The element of a position. This project's own.
-use Rattle.std.specs.Prelude.{◌≡◌, ℕ, List}
+use Rattle.std.specs.Prelude.{◌≡◌, ℕ, Bool, true, false, List}
 use Rattle.misere_theory.specs.Certificates.{Certificate, claim_of}
 use Rattle.misere_theory.specs.Quotients.{value}
 use Rattle.positions.specs.Outcomes.{HasOutcome}
 use Rattle.positions.specs.declared.outcome.Outcome.{Outcome}
 use Rattle.answers.specs.Spelled.{AreSpelled}
-use Rattle.position_commands.specs.Lines.{value_line}
+use Rattle.dominance.specs.Triples.{triple_of}
+use Rattle.dominance_text.specs.Said.{DominanceSaid}
+use Rattle.dominance_text.specs.Labels.{label_of}
+use Rattle.infinite_player.specs.Told.{IsHeavy}
+use Rattle.position_commands.specs.Lines.{heavy_line, triple_line, value_line}
 
 -- the text has the element of the position X, the outcome of X, and the position that the keys of the
 -- element spell
@@ -14,3 +18,11 @@ TellsValue c X text =
     (outcome : Outcome) × (sizes : List ℕ) × HasOutcome c.code X outcome
     × AreSpelled c (value (claim_of c) X) sizes
     × (text ≡ value_line (value (claim_of c) X) outcome sizes)
+
+-- In a whole game: the text has the triple of the position X and the outcome of X. Or X is heavy, and the
+-- text says so.
+pub data TellsWholeValue (c : DominanceSaid) (X text : List ℕ) (succeeds : Bool) : Type 0 where
+  Light : (outcome : Outcome) → HasOutcome c.code X outcome
+      → text ≡ triple_line (triple_of (label_of c) X) outcome → succeeds ≡ true
+      → TellsWholeValue c X text succeeds
+  Heavy : IsHeavy c X → text ≡ heavy_line → succeeds ≡ false → TellsWholeValue c X text succeeds

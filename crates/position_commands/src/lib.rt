@@ -1,12 +1,13 @@
-//! What a certified quotient says of positions: the element of one, all winning moves in one, and what
-//! tells two apart.
+//! What quotients say of positions: the element of one, all winning moves in one, and what tells two apart.
 #![tactic(auto)]
 
 mod asking;
 mod lines;
 mod telling;
+mod valuing;
 mod wins;
 
-pub use asking::{Question, ask};
+pub use asking::all_wins;
 pub use telling::apart;
+pub use valuing::value;
 pub use wins::MOST_LOOKS;

@@ -1,10 +1,12 @@
 //! The lines of positions.
 ghost use Rattle.std.specs.Prelude.{◌≡◌, IfOk};
 ghost use Rattle.std.specs.String.{string_bytes};
+ghost use Rattle.infinite_player.specs.Values.{triple_told};
 ghost use Rattle.positions.specs.Text.{position_text};
-ghost use Rattle.position_commands.specs.Lines.{alike_line, apart_line, many_line, outcome_letter, value_line};
+ghost use Rattle.position_commands.specs.Lines.{alike_line, apart_line, heavy_line, many_line, outcome_letter, triple_line, untried_line, value_line};
 
 use allocation::Memory;
+use infinite_player::WholeValue;
 use player::Outcome;
 use positions::Position;
 use std::alloc::{AllocError, Global};
@@ -32,6 +34,20 @@ pub(crate) fn value_text(
     Ok(text)
 }
 
+/// The line of a triple, and its outcome.
+pub(crate) fn triple_text(
+    alloc: Global,
+    triple: WholeValue,
+    outcome: Outcome,
+) -> Result<String, Memory>
+    ensures { IfOk result (λ t. string_bytes t ≡ triple_line (triple_told triple) outcome) }
+{
+    let (odd, letter) = (triple.odd as u8, letter(outcome));
+    let (weight, lead) = (triple.weight, triple.lead);
+    let text = format!(in alloc; "odd {odd} weight {weight} lead {lead} {letter}\n")?;
+    Ok(text)
+}
+
 /// The line of a position that tells two apart, and the outcomes of their sums with it.
 pub(crate) fn apart_text(
     alloc: Global,
@@ -51,6 +67,20 @@ pub(crate) fn alike_text(alloc: Global) -> Result<String, AllocError>
     ensures { IfOk result (λ t. string_bytes t ≡ alike_line) }
 {
     String::from_str(alloc, "indistinguishable\n")
+}
+
+/// That two positions aren't indistinguishable, if no third position that was tried shows it.
+pub(crate) fn untried_text(alloc: Global) -> Result<String, AllocError>
+    ensures { IfOk result (λ t. string_bytes t ≡ untried_line) }
+{
+    String::from_str(alloc, "distinguishable\n")
+}
+
+/// That a position is too heavy.
+pub(crate) fn heavy_text(alloc: Global) -> Result<String, AllocError>
+    ensures { IfOk result (λ t. string_bytes t ≡ heavy_line) }
+{
+    String::from_str(alloc, "a weight of 2^100 or more\n")
 }
 
 /// That a heap may have too many options to look at.

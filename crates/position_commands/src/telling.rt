@@ -6,20 +6,22 @@ ghost use Rattle.misere_theory.specs.Quotients.{value};
 ghost use Rattle.check_command.specs.Checks.{AreGiven, failed};
 ghost use Rattle.player.specs.Answers.{SpeaksOf};
 ghost use Rattle.positions.specs.Outcomes.{HasOutcome};
-ghost use Rattle.position_commands.specs.Apart.{SaysApart};
-ghost use Rattle.position_commands.specs.Said.{AsksOfTwo, IsApartCause, SaysBy, SaysFound};
+ghost use Rattle.position_commands.specs.Apart.{SaysApart, SaysApartOfWhole};
+ghost use Rattle.position_commands.specs.Said.{AsksOfTwo, IsApartCause, SaysBy, SaysFoundOf};
 
-use crate::lines::{alike_text, apart_text};
+use crate::lines::{alike_text, apart_text, heavy_text, untried_text};
 use allocation::Memory;
 use answers::Certified;
-use check_command::certified;
 use command_results::{Said, Stop};
 use folders::Folder;
+use given_quotients::{Quotient, quotient_of};
+use infinite_player::{Separation, whole_apart};
 use play_command::{beyond, position_of};
 use player::{Outcome, fits, value};
 use positions::Position;
 use std::alloc::Global;
 use streams::Source;
+use whole_checker::WholeGame;
 
 /// The least element that takes exactly one of the two into the portion, if there is one.
 fn separating(certified: &Certified, x: u16, y: u16) -> Option<u16>
@@ -80,7 +82,7 @@ fn apart_said(
 }
 
 /// What the certificate says of the two positions.
-fn said_by(
+fn finite_said(
     alloc: Global,
     certified: &Certified,
     first: &Position,
@@ -98,28 +100,48 @@ fn said_by(
     Ok(said)
 }
 
+/// What is said of the two positions of a whole game.
+fn whole_said(
+    alloc: Global,
+    game: &WholeGame,
+    first: &Position,
+    second: &Position,
+) -> Result<Said, Memory>
+    ensures { IfOk result (λ s. SaysApartOfWhole game.now first.now second.now s.text.items s.succeeds) }
+{
+    match whole_apart(alloc, game, first, second)? {
+        Separation::Nothing => Ok(Said::done(alike_text(alloc)?)),
+        Separation::By(third, one, other) => Ok(Said::done(apart_text(alloc, &third, one, other)?)),
+        Separation::Untried => Ok(Said::done(untried_text(alloc)?)),
+        Separation::Heavy => Ok(Said::no(heavy_text(alloc)?.into_bytes())),
+    }
+}
+
 /// What is said of the two positions by what was found.
 fn said_in(
     alloc: Global,
-    quotient: Result<Certified, Vec<u8>>,
+    found: Result<Quotient, Vec<u8>>,
     first: &Position,
     second: &Position,
 ) -> Result<Said, Memory>
     ensures { IfOk result
-        (λ s. SaysFound (λ c. SpeaksOf c first.now × SpeaksOf c second.now)
-        (λ c t b. SaysApart c first.now second.now t × (b ≡ true)) quotient s.text.items
-        s.succeeds) }
+        (λ s. SaysFoundOf
+        (λ c. SaysBy (λ d. SpeaksOf d first.now × SpeaksOf d second.now)
+        (λ d t b. SaysApart d first.now second.now t × (b ≡ true)) c)
+        (λ c. SaysApartOfWhole c first.now second.now) found s.text.items s.succeeds) }
 {
-    match quotient {
-        Ok(certified) => said_by(alloc, &certified, first, second),
+    match found {
+        Ok(Quotient::Finite(certified)) => finite_said(alloc, &certified, first, second),
+        Ok(Quotient::Whole(game)) => whole_said(alloc, &game, first, second),
         Err(no) => Ok(Said::no(no)),
     }
 }
 
 /// Says whether two positions are indistinguishable by the quotient that the file, or standard input where
-/// no file is named, certifies under the limit. If they aren't, it names a third position, of as few heaps
-/// as can be, beside which their outcomes differ. Or it says that a partial quotient doesn't speak of one
-/// of them, or why there is none. The positions are read first.
+/// no file is named, gives under the limit. If they aren't, it names a third position beside which their
+/// outcomes differ: by a finite quotient one of as few heaps as can be, and in a whole game one that is
+/// tried, or that none of these does. Or it says that a partial quotient doesn't speak of one of them, or why
+/// there is none. The positions are read first.
 pub fn apart<'a, F: Folder, S: Source>(
     alloc: Global,
     file: Option<&'a str>,
@@ -143,8 +165,8 @@ pub fn apart<'a, F: Folder, S: Source>(
 {
     let first = position_of(alloc, first)?;
     let second = position_of(alloc, second)?;
-    let quotient = certified(alloc, file, limit, folder, input)?;
-    match said_in(alloc, quotient, &first, &second) {
+    let found = quotient_of(alloc, file, limit, folder, input)?;
+    match said_in(alloc, found, &first, &second) {
         Ok(said) => Ok(said),
         Err(Memory) => Err(Stop::Memory),
     }

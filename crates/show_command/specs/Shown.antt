@@ -1,10 +1,13 @@
--- The lines of a certified quotient. This project's own.
+-- The lines of a quotient that a file gives. This project's own.
 use Rattle.std.specs.Prelude.{◌≡◌, ℕ, ◌+◌, ◌==◌, Bool, true, false, List, [], ◌++◌, Option, Result, Ok, Err, Vec, if◌then◌else◌, codes, decimal}
 use Rattle.misere_theory.specs.Certificates.{Certificate, claim_of, kind_of, phi_at}
 use Rattle.octal_code.specs.Text.{code_text}
 use Rattle.positions.specs.Text.{position_text}
 use Rattle.answers.specs.Spelled.{AreSpelled}
-use Rattle.check_command.specs.Checks.{Certifies, Checks}
+use Rattle.given_quotients.specs.Given.{Gives, Refuses}
+use Rattle.given_quotients.specs.declared.giving.Quotient.{Quotient}
+use Rattle.given_quotients.specs.declared.giving.Quotient.TheVariants.{Finite, Whole}
+use Rattle.infinite_descriptions.specs.Whole.{IsWholeText}
 
 -- the first two lines
 abbrev pub head_lines : Certificate → List ℕ
@@ -59,12 +62,17 @@ pub record IsQuotientText (c : Certificate) (text : List ℕ) : Type 0 where
   pub are_heaps : AreHeapLines c (c.start + c.period) heaps
   pub lines : text ≡ head_lines c ++ elements ++ heaps ++ tail_line c
 
+-- the same of either kind of quotients
+abbrev pub ShowsOf : Quotient → List ℕ → Type 0
+ShowsOf (Finite c) text = IsQuotientText c text
+ShowsOf (Whole c) text = IsWholeText c text
+
 -- the text of the quotient that was found, and the text of a no where none was
-abbrev pub ShowsFound : {A : Type 0} → Result Certificate (Vec ℕ A) → List ℕ → Bool → Type 0
-ShowsFound (Ok c) text succeeds = IsQuotientText c text × (succeeds ≡ true)
+abbrev pub ShowsFound : {A : Type 0} → Result Quotient (Vec ℕ A) → List ℕ → Bool → Type 0
+ShowsFound (Ok q) text succeeds = ShowsOf q text × (succeeds ≡ true)
 ShowsFound (Err said) text succeeds = (text ≡ said.items) × (succeeds ≡ false)
 
--- the text is that of the quotient that such bytes certify under the limit, or of a true no
+-- the text is that of the quotient that such bytes give under the limit, or of a true no
 abbrev pub Shows : (List ℕ → Type 0) → ℕ → List ℕ → Bool → Type 0
-Shows Are limit text true = (c : Certificate) × Certifies Are limit c × IsQuotientText c text
-Shows Are limit text false = Checks Are limit text false
+Shows Are limit text true = (q : Quotient) × Gives Are limit q × ShowsOf q text
+Shows Are limit text false = Refuses Are limit text

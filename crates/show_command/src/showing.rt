@@ -7,9 +7,10 @@ ghost use Rattle.show_command.specs.Shown.{AreElementLines, AreHeapLines, IsQuot
 use allocation::Memory;
 use answers::Certified;
 use certificate::Cert;
-use check_command::certified;
 use command_results::{Said, Stop};
 use folders::Folder;
+use given_quotients::{Quotient, quotient_of};
+use infinite_descriptions::whole_text;
 use std::alloc::{AllocError, Global};
 use streams::Source;
 
@@ -116,19 +117,20 @@ fn quotient_text(alloc: Global, certified: &Certified) -> Result<String, Memory>
 }
 
 /// What is said of what was found.
-fn shown(alloc: Global, quotient: Result<Certified, Vec<u8>>) -> Result<Said, Memory>
-    ensures { IfOk result (λ s. ShowsFound quotient s.text.items s.succeeds) }
+fn shown(alloc: Global, found: Result<Quotient, Vec<u8>>) -> Result<Said, Memory>
+    ensures { IfOk result (λ s. ShowsFound found s.text.items s.succeeds) }
 {
-    match quotient {
-        Ok(certified) => Ok(Said::done(quotient_text(alloc, &certified)?)),
+    match found {
+        Ok(Quotient::Finite(certified)) => Ok(Said::done(quotient_text(alloc, &certified)?)),
+        Ok(Quotient::Whole(game)) => Ok(Said::done(whole_text(alloc, &game)?)),
         Err(no) => Ok(Said::no(no)),
     }
 }
 
-/// The quotient that the file, or standard input where no file is named, certifies under the limit:
-/// its code and order, each element with its
-/// outcome and a position of that value, each heap with its element, and how the heaps repeat or,
-/// of a partial quotient, which is the last; or else why it certifies none.
+/// The quotient that the file, or standard input where no file is named, gives under the limit. A finite
+/// one: its code and order, each element with its outcome and a position of that value, each heap with its
+/// element, and how the heaps repeat or, of a partial quotient, which is the last. That of a whole game as
+/// `describe` has it. Or else why it gives none.
 pub fn show<'a, F: Folder, S: Source>(
     alloc: Global,
     file: Option<&'a str>,
@@ -147,8 +149,8 @@ pub fn show<'a, F: Folder, S: Source>(
     ensures folder { is_some (option_map (λ f. f.now) file.entry) ≡ false
         → folder.new ≡ folder.old }
 {
-    let quotient = certified(alloc, file, limit, folder, input)?;
-    match shown(alloc, quotient) {
+    let found = quotient_of(alloc, file, limit, folder, input)?;
+    match shown(alloc, found) {
         Ok(said) => Ok(said),
         Err(Memory) => Err(Stop::Memory),
     }

@@ -1,5 +1,9 @@
 //! A check of a whole game from its beginning to its end.
-ghost use Rattle.std.specs.Prelude.{IfOk, IfErr, IsTrue};
+ghost use Rattle.std.specs.Prelude.{◌≡◌, IfOk, IfErr, IsTrue};
+ghost use Rattle.misere_theory.specs.Games.{IsHeap};
+ghost use Rattle.misere_theory.specs.Labels.{RepresentsBy};
+ghost use Rattle.dominance.specs.Triples.{IsElement, claim_by};
+ghost use Rattle.dominance_text.specs.Labels.{label_of};
 ghost use Rattle.dominance_text.specs.Said.{IsInRanges};
 ghost use Rattle.dominance_text.specs.Spelling.{SpellsDominance};
 ghost use Rattle.infinite_answers.specs.Refusals.{refused};
@@ -9,19 +13,27 @@ use crate::game::WholeGame;
 use crate::ranks::ranks;
 use allocation::{Memory, SmallAllocator};
 use dominance_certificate::{DominanceText, TextFault, read};
-use dominance_checker::{Shape, is_accepted};
+use dominance_checker::{Shape, is_accepted, is_represented};
 use infinite_answers::InfiniteRefusal;
+use std::alloc::Allocator;
+
+/// From which heap on the text's numbers repeat.
+fn shape_of<A: Allocator>(text: &DominanceText<A>) -> Shape
+    ensures { result ≡ record { start = text.now.start; period = text.now.period; rise = text.now.rise } }
+{
+    Shape {
+        start: text.start as u64,
+        period: text.period as u64,
+        rise: text.rise as u64,
+    }
+}
 
 /// Whether what a text says is seen to be right.
 fn is_solved<A: SmallAllocator + Copy>(alloc: A, text: &DominanceText<A>) -> Result<bool, Memory>
     requires spelled { IsInRanges text.now }
     ensures { IfOk result (λ b. IsTrue b → IsSolved text.now) }
 {
-    let shape = Shape {
-        start: text.start as u64,
-        period: text.period as u64,
-        rise: text.rise as u64,
-    };
+    let shape = shape_of(text);
     let ranks = ranks(alloc, text)?;
     is_accepted(alloc, &text.code, shape, &ranks)
 }
@@ -46,4 +58,16 @@ pub fn check_whole<A: SmallAllocator + Copy>(
         Ok(false) => Err(InfiniteRefusal::Undecided),
         Err(Memory) => Err(InfiniteRefusal::Memory),
     }
+}
+
+/// Whether heaps make all elements of the monoid U of triples, so that U is the misère quotient of the game. A
+/// game of which this isn't said may have a smaller one. `Err` if memory is lacking.
+pub fn makes_all<A: SmallAllocator + Copy>(alloc: A, game: &WholeGame<A>) -> Result<bool, Memory>
+    ensures { IfOk result (λ b. IsTrue b
+        → RepresentsBy IsElement IsHeap game.now.code (claim_by (label_of game.now))) }
+{
+    let text = game.text();
+    let shape = shape_of(text);
+    let ranks = ranks(alloc, text)?;
+    is_represented(alloc, &text.code, shape, &ranks)
 }

@@ -6,5 +6,5 @@ mod checking;
 mod game;
 mod ranks;
 
-pub use checking::check_whole;
+pub use checking::{check_whole, makes_all};
 pub use game::WholeGame;

@@ -1,7 +1,10 @@
-use Rattle.infinite_command.proofs.Given.{either_tracked, tells_found}
+use Rattle.std.proofs.Common.{subst}
+use Rattle.infinite_command.specs.Checks.{JudgesInfinite}
+use Rattle.infinite_command.proofs.Given.{yes_said}
 use Rattle.infinite_command.proofs.checking.said_of_bytes.Goals as goal
 
-pub returns : goal.returns
-returns c =
-    either_tracked c.begins_whole.result _ _ _ c.begins_whole.ensures c.if-begins_whole.false
-    (tells_found c.args.bytes.now c.in_ok-found.found _ _ c.in_ok-found.ensures c.in_ok-said.ensures)
+pub returns-in-Ok : goal.returns-in-Ok
+returns-in-Ok c =
+    yes_said c.args.bytes.now c.in-Ok.found c.yes.result
+    (subst (λ q. JudgesInfinite c.args.bytes.now q) c.in-Ok.is c.in_ok-found.ensures) c.yes.ensures.line
+    c.yes.ensures.succeeds

@@ -10,7 +10,7 @@ pub loop-rest-preserved : goal.loop-rest-preserved
 loop-rest-preserved c =
     let some = not_empty c.is_empty.result c.loop-rest.rest.now c.loop-rest-test.true
     c.is_empty.ensures in
-    one_more_answered (AnswersLines (AnswersLine c.args.shown.now)) c.args.lines.now
+    one_more_answered (AnswersLines (AnswersLine c.args.found.now)) c.args.lines.now
     c.loop-rest.rest.now c.first_line.result.1.now c.loop-rest.text.items
     c.in_ok-said.said.text.items c.extend_from_slice.new.self.items c.loop-rest.succeeds
     c.in_ok-said.said.succeeds c.if-succeeds.succeeds c.loop-rest.invariant
@@ -29,7 +29,7 @@ pub returns : goal.returns
 returns c =
     let none = is_nothing c.is_empty.result c.loop-rest.rest.now c.loop-rest-test.false
     c.is_empty.ensures in
-    all_answered (AnswersLines (AnswersLine c.args.shown.now)) c.args.lines.now
+    all_answered (AnswersLines (AnswersLine c.args.found.now)) c.args.lines.now
     c.loop-rest.rest.now c.loop-rest.text.items c.loop-rest.succeeds c.loop-rest.invariant
-    (subst (λ (r : List ℕ). AnswersLines (AnswersLine c.args.shown.now) r [] true) (sym none)
+    (subst (λ (r : List ℕ). AnswersLines (AnswersLine c.args.found.now) r [] true) (sym none)
     NoLine)

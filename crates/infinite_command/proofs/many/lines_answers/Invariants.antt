@@ -6,7 +6,7 @@ use Rattle.infinite_command.proofs.many.lines_answers.Given as goal
 
 abbrev pub invariant-loop-rest : goal.invariant-loop-rest
 invariant-loop-rest l =
-    Answered (AnswersLines (AnswersLine l.shown)) l.fn.lines l.rest l.text.items l.succeeds
+    Answered (AnswersLines (AnswersLine l.found)) l.fn.lines l.rest l.text.items l.succeeds
 
 abbrev pub decreases-loop-rest : goal.decreases-loop-rest
 decreases-loop-rest l = length l.rest

@@ -3,8 +3,8 @@ use Rattle.play_command.proofs.many.line_answer.Goals as goal
 
 pub returns-in-Ok : goal.returns-in-Ok
 returns-in-Ok c =
-    in_position c.args.certified.now c.args.line.now _ c.played.result
+    in_position c.args.quotient.now c.args.line.now _ c.played.result
     c.in-Ok.ensures.ok
     (is_position c.args.line.now c.read.result c.in-Ok.position c.in-Ok.is c.read.ensures.text
     c.read.ensures.too_many c.read.ensures.too_large)
-    c.played.ensures.plays
+    c.played.ensures

@@ -6,9 +6,9 @@ use Rattle.play_command.proofs.many.play_lines.Goals as goal
 pub returns-in_ok-said-in-Ok-clause-plays : goal.returns-in_ok-said-in-Ok-clause-plays
 returns-in_ok-said-in-Ok-clause-plays g c =
     let lines = c.in_ok-lines-in-Ok.lines in
-    let left = ap g.S.Source.left (c.in_ok-certified.ensures.input refl) in
+    let left = ap g.S.Source.left (c.in_ok-quotient.ensures.input refl) in
     plays_quotient _ (AreLinesOf (g.S.Source.left c.args.input.now)) c.args.limit
-    c.in_ok-certified.field-0 _ lines.items c.deref.result.now _ _ c.in_ok-certified.ensures.found
+    c.in_ok-quotient.field-0 _ lines.items c.deref.result.now _ _ c.in_ok-quotient.ensures.found
     c.in-Ok.is
     (subst (λ (l : Option (List ℕ)). AreLinesOf l lines.items) left
     c.in_ok-lines-in-Ok.ensures.bytes)
@@ -20,5 +20,5 @@ returns-in_ok-said-in-Ok-clause-plays g c =
 pub returns-in-Err-clause-plays : goal.returns-in-Err-clause-plays
 returns-in-Err-clause-plays g c =
     plays_no _ (AreLinesOf (g.S.Source.left c.args.input.now)) c.args.limit
-    c.in_ok-certified.field-0 c.in-Err.no c.no.result.text.items c.no.result.succeeds
-    c.in_ok-certified.ensures.found c.in-Err.is (ap (λ t. t.items) c.no.ensures.text) c.no.ensures.succeeds
+    c.in_ok-quotient.field-0 c.in-Err.no c.no.result.text.items c.no.result.succeeds
+    c.in_ok-quotient.ensures.found c.in-Err.is (ap (λ t. t.items) c.no.ensures.text) c.no.ensures.succeeds

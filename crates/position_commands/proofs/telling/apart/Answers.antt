@@ -1,4 +1,4 @@
-use Rattle.position_commands.proofs.Given.{says_found}
+use Rattle.position_commands.proofs.Given.{says_found_of}
 use Rattle.position_commands.proofs.telling.apart.Goals as goal
 
 pub returns-in-Ok-clause-asks : goal.returns-in-Ok-clause-asks
@@ -7,5 +7,5 @@ returns-in-Ok-clause-asks g c = (
   _,
   c.in_ok-first.ensures.read,
   c.in_ok-second.ensures.read,
-  says_found _ _ _ c.args.limit _ _ _ c.in_ok-quotient.ensures.found c.in-Ok.ensures,
+  says_found_of _ _ _ c.args.limit _ _ _ c.in_ok-found.ensures.found c.in-Ok.ensures,
 )

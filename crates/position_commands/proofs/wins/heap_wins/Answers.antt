@@ -1,4 +1,4 @@
-use Rattle.std.proofs.Common.{◌≡◌, ◌∙◌, ◌+◌, ◌++◌, ap, arith, subst, sym, List, ℕ}
+use Rattle.std.proofs.Common.{◌∙◌, ◌+◌, ◌++◌, ap, arith, subst, sym, List, ℕ}
 use Rattle.std.specs.String.{string_bytes}
 use Rattle.position_commands.specs.Wins.{AreHeapWins}
 use Rattle.position_commands.specs.Wins.AreHeapWins.{NoHeap, Again, Next}

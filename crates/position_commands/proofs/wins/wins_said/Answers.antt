@@ -2,7 +2,6 @@ use Rattle.std.proofs.Common.{◌≡◌, ◌∙◌, ap, arith, length, rules, su
 use Rattle.std.specs.String.{string_bytes}
 use Rattle.player.specs.Answers.{IsRightAnswer}
 use Rattle.player.specs.declared.answering.Answer.{Answer}
-use Rattle.player.specs.declared.answering.Answer.TheVariants.{Wins}
 use Rattle.position_commands.specs.Wins.{AreHeapWins}
 use Rattle.position_commands.specs.Wins.TellsWins.{Many, NoWin, SomeWin}
 use Rattle.position_commands.proofs.Won.{no_win}
