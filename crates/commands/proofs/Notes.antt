@@ -4,7 +4,8 @@ use Rattle.std.specs.Prelude.{option_map}
 use Rattle.commands.specs.Causes.{notes}
 use Rattle.commands.specs.Responses.{RespondsWith, Says}
 use Rattle.describe_command.specs.Described.{Describes, form_of}
-use Rattle.describe_command.specs.Described.Describes.{Quotient, NoQuotient}
+use Rattle.describe_command.specs.Described.Describes.{ByQuotient, NoQuotient}
+use Rattle.given_quotients.specs.declared.giving.Quotient.TheVariants.{Finite, Whole}
 use Rattle.requests.specs.declared.plans.Output.{Output}
 use Rattle.requests.specs.declared.plans.Output.TheVariants.{Description, Latex, Json, Relations, Singular, Gap}
 use Rattle.requests.specs.Requests.{Request}
@@ -23,12 +24,13 @@ silent_description : (Are : List ℕ → Type 0) (file : Option (List ℕ)) (out
     → notes (Some (Describe file output basis limit)) ≡ false
     → Describes Are limit (form_of basis) output text succeeds told → told ≡ None
 silent_description Are file output basis limit text succeeds told e (NoQuotient checked ill is) = is
-silent_description Are file Description basis limit text succeeds told e (Quotient c f h) = h.1
-silent_description Are file Latex basis limit text succeeds told e (Quotient c f h) = h.1
-silent_description Are file Json basis limit text succeeds told e (Quotient c f h) = h.1
-silent_description Are file Singular basis limit text succeeds told e (Quotient c f h) = h.1
-silent_description Are file Gap basis limit text succeeds told e (Quotient c f h) = h.1
-silent_description Are file Relations basis limit text succeeds told e (Quotient c f h) = cc
+silent_description Are file output basis limit text succeeds told e (ByQuotient (Whole c) f h) = h.1
+silent_description Are file Description basis limit text succeeds told e (ByQuotient (Finite c) f h) = h.1
+silent_description Are file Latex basis limit text succeeds told e (ByQuotient (Finite c) f h) = h.1
+silent_description Are file Json basis limit text succeeds told e (ByQuotient (Finite c) f h) = h.1
+silent_description Are file Singular basis limit text succeeds told e (ByQuotient (Finite c) f h) = h.1
+silent_description Are file Gap basis limit text succeeds told e (ByQuotient (Finite c) f h) = h.1
+silent_description Are file Relations basis limit text succeeds told e (ByQuotient (Finite c) f h) = cc
 
 module _ (input : Option (List ℕ)) (before after : Option (List ℕ → Option (List ℕ))) where
   -- what is said of a request that asks for no description has no line beside it
