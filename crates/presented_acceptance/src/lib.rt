@@ -7,6 +7,8 @@ mod kept_checker_tests;
 #[cfg(test)]
 mod lowered_labels_tests;
 #[cfg(test)]
+mod presented_checker_tests;
+#[cfg(test)]
 mod presented_tables_tests;
 #[cfg(test)]
 mod told_labels_tests;

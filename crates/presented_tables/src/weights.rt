@@ -15,10 +15,10 @@ fn weight(g: usize, count: usize) -> u32 {
     let rank = if count == 0 {
         0
     } else {
-        (g as u64).min(4095) * (1 << 26) / (count as u64).max(1)
+        (g as u64).min(4095) * (1 << 18) / (count as u64).max(1)
     };
-    let chance = mixed((g as u64).wrapping_add(1)) % (1 << 26);
-    ((1 << 27) + rank.min(1 << 26) + chance) as u32
+    let chance = mixed((g as u64).wrapping_add(1)) % (1 << 18);
+    ((1 << 19) + rank.min(1 << 18) + chance) as u32
 }
 
 /// The weights of so many heaps.

@@ -1,7 +1,8 @@
 -- What is said of the front of bytes is said of all.
-use Rattle.std.proofs.Common.{◌≡◌, ◌≢◌, ◌∙◌, ◌++◌, ◌+◌, ℕ, Bool, List, ap, sym, refl, subst, append_assoc, codes, length, take, drop, inl, inr}
+use Rattle.std.proofs.Common.{◌≡◌, ◌≢◌, ◌∙◌, ◌++◌, ◌+◌, ◌≤◌, arith, ℕ, Bool, List, ap, sym, refl, subst, append_assoc, codes, length, take, drop, inl, inr}
 use Rattle.std.proofs.Math.Seq.{take-append-add}
-use Rattle.std.proofs.lemmas.List.{take-append-drop}
+use Rattle.std.proofs.lemmas.List.{take-append-drop, take_all, length-take-le}
+use native.Mathlib.Decide.{dec_le}
 use Rattle.answers.specs.ByteVerdicts.{IsTrueOf}
 use Rattle.answers.specs.ByteVerdicts.ByteVerdict.{Memory, Yes}
 use Rattle.check_machine.specs.Turns.{verdict}
@@ -10,6 +11,7 @@ use Rattle.infinite_command.specs.Told.{TellsEither}
 use Rattle.infinite_command.proofs.Given.{tells_all}
 use Rattle.misere_theory.specs.Certificates.{Certificate}
 use Rattle.certificate_text.specs.Spelling.{Spells}
+use Rattle.presented_command.specs.Told.{BeginsPresented, TellsPresented}
 use Rattle.verify_command.specs.Verifies.{BeginsInfinite, SaysOfAny, Verifies}
 
 -- a front of four bytes and more begins as all bytes do
@@ -37,6 +39,23 @@ front_begins : (bytes front : List ℕ) → front ≡ take 4194305 bytes → Beg
     → BeginsInfinite front
 front_begins bytes front is (inl h) = inl (begins_back (codes "mqi ") bytes front 4194301 is h)
 front_begins bytes front is (inr h) = inr (begins_back (codes "mqw ") bytes front 4194301 is h)
+
+-- a front that is no longer than a text has is all bytes
+all_of_front : (bytes : List ℕ) → length (take 4194305 bytes) ≤ 4194304 → take 4194305 bytes ≡ bytes
+all_of_front bytes few = elim (dec_le (length bytes) 4194305) [
+  | yes short ↦ take_all 4194305 bytes short
+  | no long ↦
+      let whole = length-take-le 4194305 bytes (omega (arith, long)) in absurd (omega (arith, whole, few))
+]
+
+all_presented : (bytes front : List ℕ) → front ≡ take 4194305 bytes → BeginsPresented front
+    → BeginsPresented bytes
+all_presented bytes front is (few, h) =
+    subst BeginsPresented (is ∙ all_of_front bytes (subst (λ (f : List ℕ). length f ≤ 4194304) is few)) (few, h)
+
+front_presented : (bytes front : List ℕ) → front ≡ take 4194305 bytes → BeginsPresented bytes
+    → front ≡ bytes
+front_presented bytes front is (few, h) = is ∙ take_all 4194305 bytes (omega (arith, few))
 
 -- the text of a front is that of all bytes, if their verdicts are the same
 says_all : ((bytes : List ℕ) (limit : ℕ) → IsTrueOf bytes limit (verdict bytes limit)
@@ -72,9 +91,14 @@ verifies_all laws decide Are front limit text accepted (bytes, are, is) said = (
         tells_all (λ b. b ≡ bytes) front text accepted (bytes, refl, is)
         (said.infinite (front_begins bytes front is begins)) in
         subst (λ v. TellsEither v text accepted) same told;
-    finite = λ other.
+    presented = λ begins.
+        let same = front_presented bytes front is begins in
+        subst (λ v. TellsPresented v text accepted) same
+        (said.presented (subst BeginsPresented (sym same) begins));
+    finite = λ other unpresented.
         says_all laws bytes front limit text accepted
         (ap (λ (f : List ℕ). verdict f limit) is ∙ decide bytes limit)
-        (said.finite (λ h. other (all_begins bytes front is h)));
+        (said.finite (λ h. other (all_begins bytes front is h))
+        (λ h. unpresented (all_presented bytes front is h)));
   },
 )

@@ -2,6 +2,7 @@
 use Rattle.std.specs.Prelude.{◌≡◌, ◌⊎◌, ◌++◌, ℕ, Bool, List, codes}
 use Rattle.check_command.specs.Checks.{SaysVerdict}
 use Rattle.infinite_command.specs.Told.{TellsEither}
+use Rattle.presented_command.specs.Told.{BeginsPresented, TellsPresented}
 
 -- The bytes begin as a text of an infinite quotient does, or as one of a whole game.
 abbrev pub BeginsInfinite : List ℕ → Type 0
@@ -9,10 +10,13 @@ BeginsInfinite bytes =
     ((rest : List ℕ) × (bytes ≡ codes "mqi " ++ rest))
     ⊎ ((rest : List ℕ) × (bytes ≡ codes "mqw " ++ rest))
 
--- The text is what `infinite` says of bytes that begin so, and of all others what `check` says.
+-- The text is what `infinite` says of bytes that begin so; of those that begin as a presentation does it says whether
+-- that is right; and of all others it is what `check` says.
 pub record SaysOfAny (bytes : List ℕ) (limit : ℕ) (text : List ℕ) (accepted : Bool) : Type 0 where
   pub infinite : BeginsInfinite bytes → TellsEither bytes text accepted
-  pub finite : (BeginsInfinite bytes → ⊥) → SaysVerdict bytes limit text accepted
+  pub presented : BeginsPresented bytes → TellsPresented bytes text accepted
+  pub finite : (BeginsInfinite bytes → ⊥) → (BeginsPresented bytes → ⊥)
+      → SaysVerdict bytes limit text accepted
 
 -- the same of the bytes that are given
 abbrev pub Verifies : (List ℕ → Type 0) → ℕ → List ℕ → Bool → Type 0

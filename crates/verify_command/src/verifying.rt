@@ -9,6 +9,7 @@ use checker::{Checker, verdicts_are_true};
 use command_results::{Said, Stop};
 use folders::Folder;
 use infinite_command::said_of_bytes;
+use presented_command::{begins_presented, presented_said};
 use std::alloc::Global;
 use streams::Source;
 use verdict_texts::checked_bytes;
@@ -37,15 +38,17 @@ fn said(alloc: Global, bytes: &[u8], limit: u32) -> Result<Said, Memory>
     ensures { IfOk result (λ s. SaysOfAny bytes.now limit s.text.items s.succeeds) }
 {
     if begins_infinite(bytes) {
-        said_of_bytes(alloc, bytes, limit)
-    } else {
-        finite_said(alloc, bytes, limit)
+        return said_of_bytes(alloc, bytes, limit);
     }
+    if begins_presented(bytes) {
+        return presented_said(alloc, bytes);
+    }
+    finite_said(alloc, bytes, limit)
 }
 
 /// Judges the text in the file, or on standard input where no file is named, by its first word: says of
-/// a text `mqi` or `mqw` what `infinite` says, and of every other what `check` says. Whichever of the two
-/// isn't read is left alone.
+/// a text `mqi` or `mqw` what `infinite` says, of a presentation, `mqp`, whether it is right, and of every other
+/// text what `check` says. Whichever of the two isn't read is left alone.
 pub fn verify<'a, F: Folder, S: Source>(
     alloc: Global,
     file: Option<&'a str>,

@@ -1,0 +1,56 @@
+//! Presentations that are checked: Nim with heaps of 1 and 2, the code 0.33 up to heap 2. Its quotient is
+//! ⟨a, b | a² = 1, b³ = b⟩, and its P-portion {a, b²} (Plambeck and Siegel).
+use presented_checker::check_presented;
+use presented_command::{begins_presented, presented_said};
+use std::alloc::Global;
+
+/// What is said of a text, if memory allows.
+fn is_said(alloc: Global, text: &[u8], line: &[u8]) -> bool {
+    match presented_said(alloc, text) {
+        Ok(said) => said.text.as_slice() == line,
+        Err(_) => false,
+    }
+}
+
+#[test]
+fn nim_is_presented(rt: HostRuntime) {
+    let text =
+        b"mqp 1\ncode 0.33\nheaps 2\nletters 1 2\nwords a b\nrelation a^2 1\nrelation b^3 b\ncycle 2:1 3:1\nportion a b^2\nend\n";
+    assert!(rt; begins_presented(text));
+    assert!(rt; is_said(rt.alloc(), text, b"yes 0.33 order 6 heaps 2\n"));
+    match check_presented(rt.alloc(), text) {
+        Ok(quotient) => {
+            assert_eq!(rt; quotient.order(), 6);
+            assert_eq!(rt; quotient.heaps(), 2);
+        }
+        Err(_) => assert!(rt; false),
+    }
+}
+
+#[test]
+fn wrong_presentations_are_refused(rt: HostRuntime) {
+    // A letter without a cycle.
+    let text =
+        b"mqp 1\ncode 0.33\nheaps 2\nletters 1 2\nwords a b\nrelation a^2 1\nrelation b^3 b\ncycle 2:1\nportion a b^2\nend\n";
+    assert!(rt; is_said(rt.alloc(), text, b"no 1 Text\n"));
+    // a³b is b and ab.
+    let text =
+        b"mqp 1\ncode 0.33\nheaps 2\nletters 1 2\nwords a b\nrelation a^3 1\nrelation a^2b b\nrelation b^3 b\ncycle 2:1 3:1\nportion a b^2\nend\n";
+    assert!(rt; is_said(rt.alloc(), text, b"no 2 Law\n"));
+    // b has no power among the left words.
+    let text =
+        b"mqp 1\ncode 0.33\nheaps 2\nletters 1 2\nwords a b\nrelation a^2 1\ncycle 2:1 3:1\nportion a b^2\nend\n";
+    assert!(rt; is_said(rt.alloc(), text, b"no 8 Limit\n"));
+    // Heap 1 is left out, and heap 2 leads to it.
+    let text =
+        b"mqp 1\ncode 0.33\nheaps 2\nletters 2\nwords - a\nrelation a^2 1\ncycle 2:1\nportion a\nend\n";
+    assert!(rt; is_said(rt.alloc(), text, b"no 31 Part\n"));
+    // b² is P.
+    let text =
+        b"mqp 1\ncode 0.33\nheaps 2\nletters 1 2\nwords a b\nrelation a^2 1\nrelation b^3 b\ncycle 2:1 3:1\nportion a\nend\n";
+    assert!(rt; is_said(rt.alloc(), text, b"no 33 Undecided\n"));
+    // b³ is another word than b, but no position tells them apart.
+    let text =
+        b"mqp 1\ncode 0.33\nheaps 2\nletters 1 2\nwords a b\nrelation a^2 1\nrelation b^5 b^3\ncycle 2:1 3:2\nportion a b^2 b^4\nend\n";
+    assert!(rt; is_said(rt.alloc(), text, b"no 33 Undecided\n"));
+}
