@@ -30,6 +30,8 @@ SIX = ("0.3", "0.33", "0.75", "0.b", "0.75_heaps_8", "0.8_heaps_4")
 POSITIONS, PLAYED, SMALL, ASKED, THREADS = 16_700, 170, 50, 500, 8
 # Of each infinite quotient
 INFINITE = 2000
+# How large the heaps of a whole game are
+LAST_OF_WHOLE = 2000
 FOUND = ("0.3", "0.33", "0.75")
 # What the program prints of each quotient that is described. (--relations is compared by itself.)
 PRINTED: tuple[misere.Output, ...] = ("latex", "json", "singular", "gap")
@@ -146,7 +148,8 @@ def compare_quotient(program: str, name: str) -> Compared:
 def compare_infinite(program: str, file: pathlib.Path) -> None:
     """The first winning moves by an infinite quotient, and what the program prints."""
     quotient = misere.check_infinite(file)
-    heaps = [it for it in range(1, quotient.last_heap + 1) if it not in quotient.without]
+    last = quotient.last_heap or LAST_OF_WHOLE
+    heaps = [it for it in range(1, last + 1) if it not in quotient.without]
     positions = [[random.choice(heaps) for _ in range(random.randint(1, 12))] for _ in range(INFINITE)]
     answers = quotient.answers(positions)
     assert answers == [quotient.answer(it) for it in positions], file

@@ -213,7 +213,9 @@ ROWS = [
         23,
         "speaks of heaps to 34 without 33 alone, and not of 33",
     ),
-    Row("no heap of a whole game", lambda: Whole.of.outcome([10**18 + 1]), misere.NotAHeap, 10, "000001 isn't, at [0]"),
+    Row(
+        "no heap of a whole game", lambda: Whole.of.outcome([10**18 + 1]), misere.NotAHeap, 10, "000001 isn't, at [0]"
+    ),
     Row("no description", Whole.of.describe, misere.NotDescribed, 16, "is not described"),
     Row("no output", lambda: OF.describe(wrong("relations")), misere.NotInRange, 15, "description, latex, json, and"),
     Row("nothing for an output", lambda: OF.describe(wrong(None)), misere.NotInRange, 15, "None is none"),
@@ -298,6 +300,8 @@ class Catalogues(unittest.TestCase):
             for code in ("0.26", "4.7"):
                 pathlib.Path(folder, f"{code}.mqw").write_bytes(whole(code).certificate)
             games = misere.InfiniteCatalogue(folder)
-            self.assertEqual((set(games), games["0.26"], games["4.7", 0]), ({"0.26", "4.7"}, whole("0.26"), whole("4.7")))
+            self.assertEqual(
+                (set(games), games["0.26"], games["4.7", 0]), ({"0.26", "4.7"}, whole("0.26"), whole("4.7"))
+            )
             pathlib.Path(folder, "a.mqi").write_text("mqi 1\n")
             self.assertIsInstance(raised(lambda: misere.InfiniteCatalogue(folder)), misere.Refused)
