@@ -4,7 +4,7 @@ ghost use Rattle.kept_checker.specs.Numbers.{IsFree, IsBadAt, IsBadWith, IsCover
 ghost use Rattle.kept_checker.specs.Numbers.IsCoveredAt.{Empty, By};
 
 use crate::entries::{is_bad_at, is_good_with};
-use crate::reads::{is_free, is_not_free, number, number_at};
+use crate::reads::{is_free, is_not_free, number, number_at, weight};
 use crate::tables::{KeptPositions, LabelTables};
 use std::alloc::Allocator;
 
@@ -27,11 +27,11 @@ pub(crate) fn weight_with<A: Allocator>(
     k: &KeptPositions<A>,
     i: usize,
     g: usize,
-) -> Option<usize>
+) -> Option<u64>
     ensures { IfSome result (λ v. v ≡ weight_with t.now k.now i g) }
 {
-    let added = number(&t.weights, g)?;
-    added.checked_add(number(&k.weights, i)?)
+    let added = weight(&t.weights, g)?;
+    added.checked_add(weight(&k.weights, i)?)
 }
 
 /// Whether position `j` is bad beside class `x`, has this label, and is lighter than that.
@@ -40,19 +40,19 @@ fn is_cover<A: Allocator>(
     k: &KeptPositions<A>,
     j: usize,
     label: usize,
-    weight: usize,
+    most: u64,
     x: usize,
 ) -> bool
     ensures { IsTrue result → (0 < j) × (j < k.now.count) × (slice_index k.now.labels j ≡ label)
-        × (slice_index k.now.weights j < weight) × IsBadAt t.now k.now j x }
+        × (slice_index k.now.weights j < most) × IsBadAt t.now k.now j x }
 {
     let Some(own) = number(&k.labels, j) else {
         return false;
     };
-    let Some(less) = number(&k.weights, j) else {
+    let Some(less) = weight(&k.weights, j) else {
         return false;
     };
-    0 < j && j < k.count && own == label && less < weight && is_bad_at(t, k, j, x)
+    0 < j && j < k.count && own == label && less < most && is_bad_at(t, k, j, x)
 }
 
 /// Whether some position of the list is.
@@ -61,15 +61,15 @@ fn has_cover<A: Allocator>(
     k: &KeptPositions<A>,
     list: &[u32],
     label: usize,
-    weight: usize,
+    most: u64,
     x: usize,
 ) -> bool
     ensures { IsTrue result → (j : ℕ) × (0 < j) × (j < k.now.count)
-        × (slice_index k.now.labels j ≡ label) × (slice_index k.now.weights j < weight)
+        × (slice_index k.now.labels j ≡ label) × (slice_index k.now.weights j < most)
         × IsBadAt t.now k.now j x }
 {
     for j in list {
-        if is_cover(t, k, *j as usize, label, weight, x) {
+        if is_cover(t, k, *j as usize, label, most, x) {
             return true;
         }
     }
@@ -93,10 +93,10 @@ fn is_covered_at<A: Allocator>(
     let Some(label) = label_with(t, k, i, g) else {
         return false;
     };
-    let Some(weight) = weight_with(t, k, i, g) else {
+    let Some(sum) = weight_with(t, k, i, g) else {
         return false;
     };
-    label == 0 && 0 < weight || has_cover(t, k, list, label, weight, x)
+    label == 0 && 0 < sum || has_cover(t, k, list, label, sum, x)
 }
 
 /// The same beside each class.
@@ -190,19 +190,19 @@ fn comes<A: Allocator>(
     let Some(label) = label_with(t, k, i, g) else {
         return false;
     };
-    let Some(weight) = weight_with(t, k, i, g) else {
+    let Some(sum) = weight_with(t, k, i, g) else {
         return false;
     };
     let Some(own) = number(&k.labels, j) else {
         return false;
     };
-    let Some(less) = number(&k.weights, j) else {
+    let Some(less) = weight(&k.weights, j) else {
         return false;
     };
     0 < j
         && j < k.count
         && own == label
-        && less <= weight
+        && less <= sum
         && is_as_free(t, k, i, j)
         && is_as_bad(t, k, i, g, j)
 }

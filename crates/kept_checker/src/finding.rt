@@ -2,7 +2,7 @@
 //! that are bad beside some class beside which no lighter one of their label is.
 use crate::entries::is_good_with;
 use crate::listed::zeros;
-use crate::slots::{at, mark, read, small};
+use crate::slots::{at, mark, read, small, weigh};
 use crate::tables::{KeptPositions, LabelTables};
 use allocation::Memory;
 use std::alloc::{Allocator, Global};
@@ -35,6 +35,13 @@ struct Search<A: Allocator = Global> {
     cap: usize,
 }
 
+/// The weight of the empty position.
+fn no_weight<A: Allocator>(alloc: A) -> Result<Vec<u64, A>, Memory> {
+    let mut all = Vec::new(alloc);
+    all.push(0)?;
+    Ok(all)
+}
+
 /// So many marks, true in the first row.
 fn reached_by_nothing<A: Allocator>(alloc: A, t: &LabelTables<A>) -> Result<Vec<bool, A>, Memory> {
     let mut all = Vec::new(alloc);
@@ -53,7 +60,7 @@ impl<A: Allocator + Copy> Search<A> {
             found: KeptPositions {
                 count: 1,
                 labels: zeros(alloc, 1)?,
-                weights: zeros(alloc, 1)?,
+                weights: no_weight(alloc)?,
                 first: zeros(alloc, 2)?,
                 heaps: Vec::new(alloc),
                 others: Vec::new(alloc),
@@ -126,12 +133,17 @@ impl<A: Allocator + Copy> Search<A> {
         Ok(())
     }
 
+    /// The weight of position `i` with heap `g` more.
+    fn weight_with(&self, t: &LabelTables<A>, i: usize, g: usize) -> u64 {
+        weigh(&t.weights, g).saturating_add(weigh(&self.found.weights, i))
+    }
+
     /// Keeps position `i` with heap `g` more.
     fn keep(&mut self, t: &LabelTables<A>, i: usize, g: usize, label: usize) -> Result<(), Memory> {
-        let weight = read(&t.weights, g).saturating_add(read(&self.found.weights, i));
+        let weight = self.weight_with(t, i, g);
         self.keep_entries(t, i, g)?;
         self.found.labels.push(small(label))?;
-        self.found.weights.push(small(weight))?;
+        self.found.weights.push(weight)?;
         self.found.parents.push(small(i))?;
         self.keep_free(t, self.found.count)?;
         self.found.count = self.found.count.saturating_add(1);
@@ -172,15 +184,17 @@ impl<A: Allocator + Copy> Search<A> {
         Ok(())
     }
 
-    /// The positions from number `from` on with each heap more, by their weights: a weight, and in the lower half
-    /// how many pairs of a position and a heap come before.
-    fn candidates(&self, alloc: A, t: &LabelTables<A>, from: usize) -> Result<Vec<u64, A>, Memory> {
+    /// The positions from number `from` on with each heap more, by their weights: a weight, the position and the heap.
+    fn candidates(
+        &self,
+        alloc: A,
+        t: &LabelTables<A>,
+        from: usize,
+    ) -> Result<Vec<(u64, u32, u32), A>, Memory> {
         let mut all = Vec::new(alloc);
         for i in from..self.found.count {
             for g in 0..t.heaps {
-                let weight = read(&t.weights, g).saturating_add(read(&self.found.weights, i));
-                let pair = at(t.heaps, i - from, g);
-                all.push((small(weight) as u64) << 32 | small(pair) as u64)?;
+                all.push((self.weight_with(t, i, g), small(i), small(g)))?;
             }
         }
         all.sort_unstable();
@@ -192,25 +206,18 @@ impl<A: Allocator + Copy> Search<A> {
     fn grow(&mut self, alloc: A, t: &LabelTables<A>, from: usize) -> Result<(), NotFound<A>> {
         let all = self.candidates(alloc, t, from)?;
         let mut last = 0;
-        for c in all.iter() {
-            let weight = *c >> 32;
-            let pair = (*c & 0xFFFF_FFFF) as usize;
-            if weight != last && 0 < t.heaps {
-                self.take(
-                    alloc,
-                    t,
-                    from.saturating_add(pair / t.heaps),
-                    pair % t.heaps,
-                )?;
+        for (weight, i, g) in all.iter() {
+            if *weight != last {
+                self.take(alloc, t, *i as usize, *g as usize)?;
             }
-            last = weight;
+            last = *weight;
         }
         Ok(())
     }
 
     /// The position of this weight, or their number.
-    fn of_weight(&self, weight: usize) -> usize {
-        match self.found.weights.binary_search(&small(weight)) {
+    fn of_weight(&self, weight: u64) -> usize {
+        match self.found.weights.binary_search(&weight) {
             Ok(j) => j,
             Err(_) => self.found.count,
         }
@@ -221,7 +228,7 @@ impl<A: Allocator + Copy> Search<A> {
         let mut onward = Vec::new(alloc);
         for i in 0..self.found.count {
             for g in 0..t.heaps {
-                let weight = read(&t.weights, g).saturating_add(read(&self.found.weights, i));
+                let weight = self.weight_with(t, i, g);
                 onward.push(small(self.of_weight(weight)))?;
             }
         }

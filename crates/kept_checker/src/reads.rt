@@ -15,6 +15,16 @@ pub(crate) fn number(list: &[u32], x: usize) -> Option<usize>
     }
 }
 
+/// Weight `x` of the list.
+pub(crate) fn weight(list: &[u64], x: usize) -> Option<u64>
+    ensures { IfSome result (λ v. v ≡ slice_index list.now x) }
+{
+    match list.get(x) {
+        Some(v) => Some(*v),
+        None => None,
+    }
+}
+
 /// Numbers `x` and `x + 1` of the list.
 pub(crate) fn bounds(list: &[u32], x: usize) -> Option<(usize, usize)>
     ensures { IfSome result (λ b. (b.0 ≡ slice_index list.now x)

@@ -8,6 +8,14 @@ pub(crate) fn read(list: &[u32], x: usize) -> usize {
     }
 }
 
+/// Weight `x` of the list.
+pub(crate) fn weigh(list: &[u64], x: usize) -> u64 {
+    match list.get(x) {
+        Some(v) => *v,
+        None => 0,
+    }
+}
+
 /// Mark `x` of the list.
 pub(crate) fn mark(list: &[bool], x: usize) -> bool {
     match list.get(x) {

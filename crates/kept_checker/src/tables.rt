@@ -14,7 +14,7 @@ pub struct LabelTables<A: Allocator = Global> {
     pub images: Vec<u32, A>,
     pub bad: Vec<bool, A>,
     pub next: Vec<u32, A>,
-    pub weights: Vec<u32, A>,
+    pub weights: Vec<u64, A>,
 }
 
 impl<A: Allocator> Model for LabelTables<A> {
@@ -58,7 +58,7 @@ impl<A: Allocator> Model for ClassTurns<A> {
 pub struct KeptPositions<A: Allocator = Global> {
     pub count: usize,
     pub labels: Vec<u32, A>,
-    pub weights: Vec<u32, A>,
+    pub weights: Vec<u64, A>,
     pub first: Vec<u32, A>,
     pub heaps: Vec<u32, A>,
     pub others: Vec<u32, A>,

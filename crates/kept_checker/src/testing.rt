@@ -6,7 +6,7 @@ use crate::covers::{is_onward, label_with, weight_with};
 use crate::entries::is_good_with;
 use crate::families::are_families;
 use crate::listed::Listed;
-use crate::reads::{bounds, is_free, is_not_free, number, number_at};
+use crate::reads::{bounds, is_free, is_not_free, number, number_at, weight};
 use crate::tables::{ClassTurns, KeptPositions, LabelTables};
 use std::alloc::Allocator;
 
@@ -17,7 +17,7 @@ fn is_empty_found<A: Allocator>(k: &KeptPositions<A>) -> bool
     let Some((from, to)) = bounds(&k.first, 0) else {
         return false;
     };
-    0 < k.count && number(&k.labels, 0) == Some(0) && number(&k.weights, 0) == Some(0) && to <= from
+    0 < k.count && number(&k.labels, 0) == Some(0) && weight(&k.weights, 0) == Some(0) && to <= from
 }
 
 /// Whether entry `p` is entry `o` with heap `g` more.
@@ -138,7 +138,7 @@ fn is_made_of<A: Allocator>(
     let Some(label) = label_with(t, k, i, g) else {
         return false;
     };
-    let Some(weight) = number(&k.weights, j) else {
+    let Some(own_weight) = weight(&k.weights, j) else {
         return false;
     };
     let Some(sum) = weight_with(t, k, i, g) else {
@@ -148,7 +148,7 @@ fn is_made_of<A: Allocator>(
         && g < t.heaps
         && own == label
         && own < t.labels
-        && weight == sum
+        && own_weight == sum
         && has_entries_of(t, k, j, i, g)
 }
 

@@ -19,7 +19,7 @@ static NEXT: [u32; 12] = [1, 2, 0, 3, 3, 4, 2, 5, 5, 2, 4, 3];
 fn tables<A: Allocator + Copy>(
     alloc: A,
     bad: &[bool],
-    weights: &[u32],
+    weights: &[u64],
 ) -> Result<LabelTables<A>, Memory> {
     Ok(LabelTables {
         heaps: 2,
@@ -48,7 +48,7 @@ fn answer<A: Allocator>(found: &Result<KeptPositions<A>, NotFound<A>>) -> (&'sta
 fn answer_of<A: Allocator + Copy>(
     alloc: A,
     bad: &[bool],
-    weights: &[u32],
+    weights: &[u64],
     limit: usize,
 ) -> Result<(&'static str, usize), Memory> {
     let t = tables(alloc, bad, weights)?;
@@ -66,7 +66,7 @@ static WRONG: [bool; 12] = [
 ];
 
 /// The heaps' weights, a limit, and the answer. Kept are the empty position, 1, 2 and 2 + 2.
-static LIMITS: [(&str, [u32; 2], usize, (&str, usize)); 3] = [
+static LIMITS: [(&str, [u64; 2], usize, (&str, usize)); 3] = [
     ("ample", [16, 17], 100, ("tested", 4)),
     ("no weight", [0, 0], 100, ("undecided", 0)),
     ("two positions", [16, 17], 2, ("limit", 0)),

@@ -1,5 +1,5 @@
 -- When a presentation is accepted, and when a refusal is true of the bytes. This project's own.
-use Rattle.std.specs.Prelude.{◌≡◌, ℕ, List, codes}
+use Rattle.std.specs.Prelude.{◌≡◌, ℕ, Option, Some, None, List, codes}
 use Rattle.presentations.specs.declared.TheConstants.{LETTERS}
 use Rattle.normal_forms.specs.Reductions.{AreConvergent}
 use Rattle.presented_text.specs.Said.{PresentedSaid}
@@ -7,6 +7,7 @@ use Rattle.presented_text.specs.Spelling.{SpellsPresented}
 use Rattle.presented_claims.specs.Presents.{Presents}
 use Rattle.finite_presentations.specs.Numbered.{Numbers, AreNumbered}
 use Rattle.presented_forms.specs.Form.{IsInForm}
+use Rattle.class_checker.specs.Endless.{IsEndless}
 use Rattle.presented_tables.specs.Faults.{LeavesOut}
 use Rattle.presented_checker.specs.declared.refusal.PresentedRefusal.{PresentedRefusal}
 use Rattle.presented_checker.specs.declared.refusal.PresentedRefusal.TheVariants as no
@@ -15,10 +16,15 @@ use Rattle.presented_checker.specs.declared.refusal.PresentedRefusal.TheVariants
 abbrev pub HasOrder : PresentedSaid → ℕ → Type 0
 HasOrder c q = (b : Numbers) × AreNumbered c b × (b.order ≡ q)
 
--- What is kept of a presentation that is accepted: what it says, and how many elements it has.
+-- The order that is kept: how many elements there are, or none if each power of some letter is one.
+abbrev pub IsOrder : PresentedSaid → Option ℕ → Type 0
+IsOrder c (Some q) = HasOrder c q
+IsOrder c None = IsEndless c
+
+-- What is kept of a presentation that is accepted: what it says, and how many elements it has, if they are finitely many.
 pub record Kept : Type 0 where
   pub said : PresentedSaid
-  pub order : ℕ
+  pub order : Option ℕ
 
 -- What is said is the misère quotient of its heaps, and it has the form that is asked for.
 pub record IsAccepted (c : PresentedSaid) : Type 0 where
@@ -28,7 +34,7 @@ pub record IsAccepted (c : PresentedSaid) : Type 0 where
 -- The same of what is kept, and it has the order that is kept.
 pub record IsRight (k : Kept) : Type 0 where
   pub accepted : IsAccepted k.said
-  pub order : HasOrder k.said k.order
+  pub order : IsOrder k.said k.order
 
 -- The refusal is true of what is said: the relations don't reduce each word to one normal form, or an option leaves the
 -- heaps. A limit, that nothing is decided and want of memory say nothing.

@@ -8,10 +8,11 @@ ghost use Rattle.presented_claims.specs.Presents.{Presents};
 ghost use Rattle.presented_forms.specs.Form.{IsInForm};
 ghost use Rattle.presented_tables.specs.Tested.{AreTestedTables};
 ghost use Rattle.presented_tables.specs.Faults.{IsTrueOf};
-ghost use Rattle.presented_checker.specs.Refused.{Fits, HasOrder, IsRight, IsTrueOfBytes};
+ghost use Rattle.presented_checker.specs.Refused.{Fits, HasOrder, IsOrder, IsRight, IsTrueOfBytes};
 
 use crate::quotient::PresentedQuotient;
 use crate::refusal::PresentedRefusal;
+use class_checker::{is_endless, present_by_classes};
 use kept_checker::{NotFound, tested_positions};
 use normal_forms::{Basis, BasisFault};
 use presented_certificate::{PresentedText, TextFault, read};
@@ -121,8 +122,11 @@ fn count<A: Allocator>(tables: &PresentedTables<A>) -> usize
     elements.words.len()
 }
 
-/// Tests a presentation that has the form that is asked for: how many elements it has, if it is right.
-fn order_of<A: Allocator + Copy>(alloc: A, said: &Presented<A>) -> Result<usize, PresentedRefusal>
+/// Tests a presentation with finitely many elements that has the form that is asked for: how many it has, if it is right.
+fn finite_order_of<A: Allocator + Copy>(
+    alloc: A,
+    said: &Presented<A>,
+) -> Result<usize, PresentedRefusal>
     requires ranges { IsInRanges said.now }
     requires in_form { IsInForm said.now }
     ensures yes { IfOk result (λ q. Presents said.now × HasOrder said.now q) }
@@ -132,6 +136,41 @@ fn order_of<A: Allocator + Copy>(alloc: A, said: &Presented<A>) -> Result<usize,
     keep(alloc, &tables)?;
     tell(alloc, &tables)?;
     Ok(count(&tables))
+}
+
+/// Sees that a presentation with infinitely many elements is right.
+fn present_endless<A: Allocator + Copy>(
+    alloc: A,
+    said: &Presented<A>,
+) -> Result<(), PresentedRefusal>
+    requires ranges { IsInRanges said.now }
+    requires in_form { IsInForm said.now }
+    ensures yes { IfOk result (λ _. Presents said.now) }
+    ensures no { IfErr result (Fits said.now) }
+{
+    match present_by_classes(alloc, said) {
+        Ok(()) => Ok(()),
+        Err(fault) => Err(fault_of_tables(fault)),
+    }
+}
+
+/// Tests a presentation that has the form that is asked for: how many elements it has, if it is right, or none if they are
+/// infinitely many.
+fn order_of<A: Allocator + Copy>(
+    alloc: A,
+    said: &Presented<A>,
+) -> Result<Option<usize>, PresentedRefusal>
+    requires ranges { IsInRanges said.now }
+    requires in_form { IsInForm said.now }
+    ensures yes { IfOk result (λ q. Presents said.now × IsOrder said.now q) }
+    ensures no { IfErr result (Fits said.now) }
+{
+    if is_endless(said) {
+        present_endless(alloc, said)?;
+        return Ok(None);
+    }
+    let order = finite_order_of(alloc, said)?;
+    Ok(Some(order))
 }
 
 /// The quotient that a presentation is, if it is seen to be right.

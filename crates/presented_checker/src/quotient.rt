@@ -1,5 +1,5 @@
 //! Presentations that were checked.
-ghost use Rattle.std.specs.Prelude.{◌≡◌};
+ghost use Rattle.std.specs.Prelude.{◌≡◌, length};
 ghost use Rattle.presented_checker.specs.Refused.{IsRight};
 
 use octal_code::Code;
@@ -12,7 +12,7 @@ use std::marker::Model;
 #[derive(Drop)]
 pub struct PresentedQuotient<A: Allocator = Global> {
     said: Presented<A>,
-    order: usize,
+    order: Option<usize>,
 }
 
 impl<A: Allocator> Model for PresentedQuotient<A> {
@@ -26,8 +26,8 @@ impl<A: Allocator> Model for PresentedQuotient<A> {
 }
 
 impl<A: Allocator> PresentedQuotient<A> {
-    /// Keeps a presentation that is right, and how many elements were listed.
-    pub(crate) fn new(said: Presented<A>, order: usize) -> PresentedQuotient<A>
+    /// Keeps a presentation that is right, and how many elements were listed, if they are finitely many.
+    pub(crate) fn new(said: Presented<A>, order: Option<usize>) -> PresentedQuotient<A>
         requires { IsRight (record { said = said; order = order }) }
         ensures { result ≡ record { said = said; order = order } }
     {
@@ -56,8 +56,15 @@ impl<A: Allocator> PresentedQuotient<A> {
         self.said.heaps
     }
 
-    /// How many elements the quotient has. It takes no memory.
-    pub fn order(&self) -> usize
+    /// How many relations there are. It takes no memory.
+    pub fn relations(&self) -> usize
+        ensures { result ≡ length self.now.said.relations }
+    {
+        self.said.basis.rules().len()
+    }
+
+    /// How many elements the quotient has, or none if it is infinite. It takes no memory.
+    pub fn order(&self) -> Option<usize>
         ensures { result ≡ self.now.order }
     {
         self.order

@@ -1,8 +1,9 @@
 -- What is said of a presentation: the text that is printed, and whether that is a yes. This project's own.
-use Rattle.std.specs.Prelude.{◌≡◌, ◌≤◌, ◌++◌, ℕ, Bool, true, false, List, length, codes, decimal}
+use Rattle.std.specs.Prelude.{◌≡◌, ◌≤◌, ◌++◌, ℕ, Option, Some, None, Bool, true, false, List, length, codes, decimal}
 use Rattle.octal_code.specs.Text.{code_text}
 use Rattle.certificate_text.specs.declared.TheConstants.{LONGEST_TEXT}
 use Rattle.verdict_texts.specs.Lines.{no_line}
+use Rattle.presented_text.specs.Said.{PresentedSaid}
 use Rattle.presented_text.specs.Spelling.{SpellsPresented}
 use Rattle.presented_checker.specs.Refused.{Kept, IsRight, IsTrueOfBytes}
 use Rattle.presented_checker.specs.declared.refusal.PresentedRefusal.{PresentedRefusal}
@@ -10,11 +11,24 @@ use Rattle.presented_checker.specs.declared.refusal.PresentedRefusal.TheVariants
 
 -- The line of a presentation that is right: the code, how many elements the quotient has, and the last heap that has a
 -- word of its own.
-abbrev pub presented_line : Kept → List ℕ
-presented_line k =
-    codes "yes " ++ code_text k.said.code ++ codes " order " ++ decimal k.order ++ codes " heaps "
-    ++ decimal k.said.heaps
+abbrev pub finite_line : PresentedSaid → ℕ → List ℕ
+finite_line c q =
+    codes "yes " ++ code_text c.code ++ codes " order " ++ decimal q ++ codes " heaps " ++ decimal c.heaps ++ codes "\n"
+
+-- The line of one with infinitely many elements: the code, the last heap that has a word of its own, and how many relations
+-- there are.
+abbrev pub endless_line : PresentedSaid → ℕ → List ℕ
+endless_line c n =
+    codes "infinite " ++ code_text c.code ++ codes " heaps " ++ decimal c.heaps ++ codes " relations " ++ decimal n
     ++ codes "\n"
+
+-- the one or the other
+abbrev pub line_by : PresentedSaid → Option ℕ → List ℕ
+line_by c (Some q) = finite_line c q
+line_by c None = endless_line c (length c.relations)
+
+abbrev pub presented_line : Kept → List ℕ
+presented_line k = line_by k.said k.order
 
 -- The line of a refusal. Want of memory has none.
 abbrev pub IsRefusalLine : PresentedRefusal → List ℕ → Type 0

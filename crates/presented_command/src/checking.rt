@@ -1,7 +1,7 @@
 //! What is said of bytes that begin as a presentation does.
 ghost use Rattle.std.specs.Prelude.{◌≡◌, ◌↔◌, ◌++◌, ℕ, List, codes, IfOk, IsTrue};
 ghost use Rattle.std.specs.String.{string_bytes};
-ghost use Rattle.presented_command.specs.Told.{BeginsPresented, IsRefusalLine, TellsPresented, presented_line};
+ghost use Rattle.presented_command.specs.Told.{BeginsPresented, IsRefusalLine, TellsPresented, finite_line, endless_line, presented_line};
 ghost use Rattle.verdict_texts.specs.Lines.{no_line};
 
 use allocation::Memory;
@@ -10,14 +10,38 @@ use command_results::Said;
 use presented_checker::{PresentedQuotient, PresentedRefusal, check_presented};
 use std::alloc::Global;
 
+/// The line of a presentation with finitely many elements.
+fn finite_text(alloc: Global, quotient: &PresentedQuotient, order: usize) -> Result<String, Memory>
+    ensures { IfOk result (λ t. string_bytes t ≡ finite_line quotient.now.said order) }
+{
+    let code = quotient.code().text(alloc)?;
+    let heaps = quotient.heaps();
+    let text = format!(in alloc; "yes {code} order {order} heaps {heaps}\n")?;
+    Ok(text)
+}
+
+/// The line of one with infinitely many.
+fn endless_text(
+    alloc: Global,
+    quotient: &PresentedQuotient,
+    relations: usize,
+) -> Result<String, Memory>
+    ensures { IfOk result (λ t. string_bytes t ≡ endless_line quotient.now.said relations) }
+{
+    let code = quotient.code().text(alloc)?;
+    let heaps = quotient.heaps();
+    let text = format!(in alloc; "infinite {code} heaps {heaps} relations {relations}\n")?;
+    Ok(text)
+}
+
 /// The line of a presentation that is right.
 fn yes_text(alloc: Global, quotient: &PresentedQuotient) -> Result<String, Memory>
     ensures { IfOk result (λ t. string_bytes t ≡ presented_line quotient.now) }
 {
-    let code = quotient.code().text(alloc)?;
-    let (order, heaps) = (quotient.order(), quotient.heaps());
-    let text = format!(in alloc; "yes {code} order {order} heaps {heaps}\n")?;
-    Ok(text)
+    match quotient.order() {
+        Some(order) => finite_text(alloc, quotient, order),
+        None => endless_text(alloc, quotient, quotient.relations()),
+    }
 }
 
 /// The line of a no.

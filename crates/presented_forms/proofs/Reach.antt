@@ -12,14 +12,14 @@ use Rattle.normal_forms.specs.Forms.{IsStandard}
 use Rattle.presented_claims.specs.Claims.{cycled_exponent, cycled}
 use Rattle.presented_forms.specs.Form.{MayHold, StandsForStandard}
 
-cycled-out : (cs : List (ℕ × ℕ)) (w : List ℕ) (i : ℕ) → length cs ≤ i
+pub cycled-out : (cs : List (ℕ × ℕ)) (w : List ℕ) (i : ℕ) → length cs ≤ i
     → slice_index (cycled cs w) i ≡ slice_index w i
 cycled-out [] w i le = refl
 cycled-out (c ∷ cs) [] i le = refl
 cycled-out (c ∷ cs) (e ∷ w) zero le = absurd (omega (arith, le))
 cycled-out (c ∷ cs) (e ∷ w) (suc i) le = cycled-out cs w i (omega (arith, le))
 
-cycled-in : (cs : List (ℕ × ℕ)) (w : List ℕ) (i : ℕ) (d : ℕ × ℕ) → i < length cs → i < length w
+pub cycled-in : (cs : List (ℕ × ℕ)) (w : List ℕ) (i : ℕ) (d : ℕ × ℕ) → i < length cs → i < length w
     → slice_index (cycled cs w) i ≡ cycled_exponent (slice_index_or cs i d) (slice_index w i)
 cycled-in [] w i d near long = absurd (omega (arith, near))
 cycled-in (c ∷ cs) [] i d near long = absurd (omega (arith, long))

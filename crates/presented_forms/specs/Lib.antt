@@ -1,1 +1,3 @@
 pub mod Form
+pub mod Only
+pub mod Shown

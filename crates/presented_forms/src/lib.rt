@@ -3,9 +3,14 @@
 #![tactic(auto)]
 
 mod basis;
+mod cycles;
 mod form;
+mod least;
 mod letters;
+mod list;
 mod order;
 mod portion;
+mod within;
 
 pub use form::is_in_form;
+pub use least::is_least;

@@ -22,14 +22,14 @@ use Rattle.kept_checker.specs.Numbers.{LabelTables}
 use Rattle.kept_checker.specs.Numbering.{Numbering, AreTablesOf}
 use Rattle.presented_text.specs.Said.{PresentedSaid}
 use Rattle.presented_claims.specs.Claims.{heap_word, in_portion, IsElement, claim_of}
-use Rattle.presented_tables.specs.Elements.{ListedElements, element, Takes, AreElements}
+use Rattle.presented_tables.specs.Elements.{place, ListedElements, element, Takes, AreElements}
 use Rattle.presented_tables.specs.Beside.{IsBeside}
 use Rattle.presented_tables.specs.Numbers.{HeapNumbers}
 use Rattle.presented_tables.specs.Rows.{IsMark, AreLabelTables}
 use Rattle.presented_tables.specs.Tested.{HasWord, Says, IsOneIfIdle, AreWordsIn, AreHeapsTested, AreTestedTables}
 use Rattle.presented_tables.specs.declared.beside.Beside.TheVariants.{Bad, Good}
 use Rattle.presented_tables.proofs.Taking.{long, form-is, listed}
-use Rattle.presented_tables.proofs.Places.{place, place-in, place-is, place-first}
+use Rattle.presented_tables.proofs.Places.{place-in, place-is, place-first}
 
 all-long : (f : ℕ → List ℕ) → ((n : ℕ) → length (f n) ≡ LETTERS) → (X : List ℕ)
     → All (λ h. length (f h) ≡ LETTERS) X
@@ -38,38 +38,38 @@ all-long f l X k d lt = l (slice_index_or X k d)
 module _ (c : PresentedSaid) (conv : AreConvergent LETTERS c.relations)
     (within : AreIn (length c.letters) c.relations) (words : AreWordsIn c)
     (F : NormalForms LETTERS c.relations) where
-  abbrev cl : LabelClaim (List ℕ)
+  abbrev pub cl : LabelClaim (List ℕ)
   cl = claim_of c F
 
-  monoid : AreLabels (IsElement c) cl.one cl.times
+  pub monoid : AreLabels (IsElement c) cl.one cl.times
   monoid = element-labels LETTERS (length c.letters) c.relations within F conv
 
-  label-in : (n : ℕ) → IsElement c (cl.label n)
+  pub label-in : (n : ℕ) → IsElement c (cl.label n)
   label-in n = form-element LETTERS (length c.letters) c.relations within F (heap_word c n) (words n).0 (words n).1
 
-  word-long : (X : List ℕ) → length (word_of LETTERS (heap_word c) X) ≡ LETTERS
+  pub word-long : (X : List ℕ) → length (word_of LETTERS (heap_word c) X) ≡ LETTERS
   word-long [] = (monoid.some).standard.long
   word-long (h ∷ X) =
       length-sum LETTERS (heap_word c h) (word_of LETTERS (heap_word c) X) (words h).0 (word-long X)
 
-  own-form : (x : List ℕ) → IsStandard LETTERS c.relations x → F.form x ≡ x
+  pub own-form : (x : List ℕ) → IsStandard LETTERS c.relations x → F.form x ≡ x
   own-form x s =
       one-form LETTERS c.relations conv x (F.form x) x s.long (F.is x s.long)
       (record { standard = s; related = Same x s.long })
 
-  times-form : (x w : List ℕ) → IsElement c x → length w ≡ LETTERS
+  pub times-form : (x w : List ℕ) → IsElement c x → length w ≡ LETTERS
       → cl.times x (F.form w) ≡ F.form (plus x w)
   times-form x w el l =
       ap (λ z. product_by F.form z (F.form w)) (sym (own-form x el.standard))
       ∙ sym (form-product LETTERS c.relations conv F x w el.standard.long l)
 
-  label-is : (X : List ℕ) → label_of cl X ≡ F.form (word_of LETTERS (heap_word c) X)
+  pub label-is : (X : List ℕ) → label_of cl X ≡ F.form (word_of LETTERS (heap_word c) X)
   label-is X =
       label-form LETTERS c.relations conv F (heap_word c) (in_portion c) X
       (all-long (heap_word c) (λ n. (words n).0) X)
 
   -- what is said of a position beside an element is what the claim says
-  said : (x X : List ℕ) (b : Bool) → IsElement c x → Says c x X b
+  pub said : (x X : List ℕ) (b : Bool) → IsElement c x → Says c x X b
       → cl.portion (cl.times x (label_of cl X)) ≡ b
   said x X b el s =
       let w : List ℕ = word_of LETTERS (heap_word c) X in
@@ -78,7 +78,7 @@ module _ (c : PresentedSaid) (conv : AreConvergent LETTERS c.relations)
       ∙ s (F.form (plus x w))
       (F.is (plus x w) (length-sum LETTERS x w el.standard.long (word-long X)))
 
-  bad-is : (x : List ℕ) (n : ℕ) → IsElement c x → IsBeside c x n Bad
+  pub bad-is : (x : List ℕ) (n : ℕ) → IsElement c x → IsBeside c x n Bad
       → IsBadBeside c.code cl x (n ∷ [])
   bad-is x n el b = (said x (n ∷ []) false el b.0, λ Y m. of_move Y m)
     where
@@ -88,7 +88,7 @@ module _ (c : PresentedSaid) (conv : AreConvergent LETTERS c.relations)
           (said x H false el (b.1 H o))
       of_move Y (There m e) = absurd (no_move_of_none m)
 
-  good-is : (x : List ℕ) (n : ℕ) → IsElement c x → IsBeside c x n Good
+  pub good-is : (x : List ℕ) (n : ℕ) → IsElement c x → IsBeside c x n Good
       → IsBadBeside c.code cl x (n ∷ []) → ⊥
   good-is x n el (inl g) b = true≢false (sym (said x (n ∷ []) true el g.0) ∙ b.0)
   good-is x n el (inr (_, (H, o, s))) b =

@@ -1,12 +1,12 @@
-mod Below
-mod Walked
-mod First
-mod Cycled
-mod Words
-mod Taking
-mod Orders
-mod HeapWords
-mod Places
-mod Claimed
-mod Filled
-mod Mapped
+pub mod Below
+pub mod Walked
+pub mod First
+pub mod Cycled
+pub mod Words
+pub mod Taking
+pub mod Orders
+pub mod HeapWords
+pub mod Places
+pub mod Claimed
+pub mod Filled
+pub mod Mapped

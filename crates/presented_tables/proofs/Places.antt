@@ -3,10 +3,7 @@ use Rattle.std.proofs.Common.{◌≡◌, ℕ, zero, suc, ◌<◌, false, List, [
 use Rattle.std.specs.Prelude.{slice_index_or, nat_eq, cond}
 use Rattle.std.specs.Cmp.Lexicographic.{pointwise, same_text, other_text}
 use Rattle.std.proofs.lemmas.Bool.{cases_Bool}
-
-abbrev pub place : List (List ℕ) → List ℕ → ℕ
-place [] w = 0
-place (v ∷ vs) w = cond (pointwise nat_eq v w) 0 (suc (place vs w))
+use Rattle.presented_tables.specs.Elements.{place}
 
 -- that the word is in the list
 abbrev pub IsThere : List (List ℕ) → List ℕ → Type 0

@@ -1,5 +1,6 @@
 -- The elements of a presentation in numbers, and to which of them words take others. This project's own.
-use Rattle.std.specs.Prelude.{◌≡◌, ℕ, ◌<◌, Bool, false, List, [], length, slice_index_or}
+use Rattle.std.specs.Prelude.{◌≡◌, ℕ, suc, ◌<◌, Bool, false, List, [], ◌∷◌, length, slice_index_or, nat_eq, cond}
+use Rattle.std.specs.Cmp.Lexicographic.{pointwise}
 use Rattle.presentations.specs.declared.TheConstants.{LETTERS}
 use Rattle.presentations.specs.Vectors.{plus, zeros, only}
 use Rattle.presentations.specs.Congruences.{Related}
@@ -13,6 +14,11 @@ pub record ListedElements : Type 0 where
   pub words : List (List ℕ)
   pub steps : List ℕ
   pub bits : List Bool
+
+-- The first place of a word in a list, or the list's length.
+abbrev pub place : List (List ℕ) → List ℕ → ℕ
+place [] w = 0
+place (v ∷ vs) w = cond (pointwise nat_eq v w) 0 (suc (place vs w))
 
 -- Number x of the words.
 abbrev pub element : ListedElements → ℕ → List ℕ

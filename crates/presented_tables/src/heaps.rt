@@ -11,7 +11,7 @@ use octal_code::Code;
 use std::alloc::Allocator;
 
 /// Whether the heap has an option.
-pub(crate) fn has_option(code: &Code, n: u64) -> bool
+pub fn has_option(code: &Code, n: u64) -> bool
     ensures { IsTrue result ↔ ((H : List ℕ) × HeapOption code.now n H) }
 {
     options_are_exact();
@@ -55,7 +55,7 @@ fn is_left<A: Allocator>(p: &Presented<A>, n: u64) -> bool
 }
 
 /// The first heap of the list that has such an option.
-pub(crate) fn heap_that_leaves<A: Allocator>(p: &Presented<A>) -> Option<u64>
+pub fn heap_that_leaves<A: Allocator>(p: &Presented<A>) -> Option<u64>
     ensures leaves { IfSome result (λ n. LeavesOut p.now n) }
     ensures stays { result ≡ None → (n : ℕ) → n ≤ p.now.heaps → HasWord p.now n → (H : List ℕ)
         → HeapOption p.now.code n H → IsPosition (HasWord p.now) H }

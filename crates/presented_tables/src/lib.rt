@@ -21,6 +21,12 @@ mod weights;
 mod within;
 
 pub use answer::{PresentedTables, tables_of};
+pub use beside::Beside;
 pub use elements::ListedElements;
 pub use fault::TablesFault;
+pub use heaps::{has_option, heap_that_leaves};
+pub use numbers::{HeapNumbers, numbers_of};
+pub use portion::{in_portion, is_word};
 pub use presentation::Presented;
+pub use weights::weights as heap_weights;
+pub use within::{is_in, test_within};

@@ -109,7 +109,7 @@ fn are_sizes<A: Allocator>(p: &Presented<A>, s: &HeapNumbers<A>) -> bool
 }
 
 /// The movable heaps in numbers.
-pub(crate) fn numbers_of<A: Allocator + Copy>(
+pub fn numbers_of<A: Allocator + Copy>(
     alloc: A,
     p: &Presented<A>,
 ) -> Result<HeapNumbers<A>, TablesFault>

@@ -45,7 +45,7 @@ fn cycled(cycles: &[LetterCycle], word: &Exponents) -> Exponents
 }
 
 /// Whether the words are the same.
-pub(crate) fn is_word(v: &Exponents, w: &Exponents) -> bool
+pub fn is_word(v: &Exponents, w: &Exponents) -> bool
     ensures { IsTrue result ↔ (v.now ≡ w.now) }
 {
     for i in 0..LETTERS {
@@ -70,7 +70,7 @@ fn is_listed(list: &[Exponents], word: &Exponents) -> bool
 }
 
 /// Whether the word is in the portion.
-pub(crate) fn in_portion<A: Allocator>(p: &Presented<A>, word: &Exponents) -> bool
+pub fn in_portion<A: Allocator>(p: &Presented<A>, word: &Exponents) -> bool
     ensures { result ≡ in_portion p.now word.now }
 {
     is_listed(p.portion.as_slice(), &cycled(p.cycles.as_slice(), word))

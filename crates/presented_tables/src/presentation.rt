@@ -68,14 +68,14 @@ impl<A: Allocator> Presented<A> {
     }
 
     /// The word of heap `n`, if it has one.
-    pub(crate) fn word(&self, n: u64) -> Option<Exponents>
+    pub fn word(&self, n: u64) -> Option<Exponents>
         ensures { result ≡ listed_word self.now (listed_heap self.now n) }
     {
         self.listed_word(self.listed_heap(n))
     }
 
     /// Whether heap `n` has a word.
-    pub(crate) fn has_word(&self, n: u64) -> bool
+    pub fn has_word(&self, n: u64) -> bool
         ensures { result ≡ has_word self.now n }
     {
         match self.word(n) {

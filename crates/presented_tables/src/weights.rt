@@ -1,4 +1,5 @@
-//! Weights of heaps, so that different positions have different sums, mostly. Nothing is promised.
+//! Weights of heaps, so that different positions have different sums, mostly: fewer heaps weigh less, and of as many
+//! the smaller ones do. Nothing is promised.
 use allocation::Memory;
 use std::alloc::Allocator;
 
@@ -10,19 +11,16 @@ fn mixed(n: u64) -> u64 {
     c ^ (c >> 31)
 }
 
-/// The weight of heap `g` of so many: larger for later ones, with a bit of chance.
-fn weight(g: usize, count: usize) -> u32 {
-    let rank = if count == 0 {
-        0
-    } else {
-        (g as u64).min(4095) * (1 << 18) / (count as u64).max(1)
-    };
-    let chance = mixed((g as u64).wrapping_add(1)) % (1 << 18);
-    ((1 << 19) + rank.min(1 << 18) + chance) as u32
+/// The weight of heap `g` of so many: a heap more outweighs the differences of 255 heaps, of which 12 bits are for the
+/// heap's place and 36 for chance.
+fn weight(g: usize, count: usize) -> u64 {
+    let place = (g as u64).min(1 << 32) * 4095 / (count as u64).max(1);
+    let chance = mixed((g as u64).wrapping_add(1)) >> 28;
+    (1 << 56) + (place.min(4095) << 36) + chance
 }
 
 /// The weights of so many heaps.
-pub(crate) fn weights<A: Allocator + Copy>(alloc: A, count: usize) -> Result<Vec<u32, A>, Memory> {
+pub fn weights<A: Allocator + Copy>(alloc: A, count: usize) -> Result<Vec<u64, A>, Memory> {
     let mut weights = Vec::new(alloc);
     for g in 0..count {
         weights.push(weight(g, count))?;

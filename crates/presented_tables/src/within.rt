@@ -13,7 +13,7 @@ use presentations::LETTERS;
 use std::alloc::Allocator;
 
 /// Whether the word has no letter but the first ones.
-pub(crate) fn is_in(letters: usize, word: &Exponents) -> bool
+pub fn is_in(letters: usize, word: &Exponents) -> bool
     ensures within { IsTrue result ↔ IsIn letters word.now }
     ensures long { length word.now ≡ LETTERS }
 {
@@ -88,7 +88,7 @@ fn are_words_in<A: Allocator>(p: &Presented<A>) -> bool
 }
 
 /// Tests the relations and the heaps' words.
-pub(crate) fn test_within<A: Allocator>(p: &Presented<A>) -> Result<(), TablesFault>
+pub fn test_within<A: Allocator>(p: &Presented<A>) -> Result<(), TablesFault>
     ensures relations { IfOk result (λ _. AreIn (length p.now.letters) p.now.relations) }
     ensures words { IfOk result (λ _. AreWordsIn p.now) }
     ensures fault { IfErr result (λ f. IsTrueOf p.now f) }

@@ -57,10 +57,10 @@ module _
 
   module _ (a z : List ℕ) (a_in : IsStandard n relations a) (z_long : length z ≡ n)
       (led : IsLed n F.form tops folds weights a z) where
-    to-standard : IsStandard n relations led.to
+    pub to-standard : IsStandard n relations led.to
     to-standard = rw (sym led.is) (F.is (plus a z) (length-sum n a z a_in.long z_long)).standard
 
-    turns-long : (j : ℕ) → RunsOn folds a j → length (led.turns j) ≡ n
+    pub turns-long : (j : ℕ) → RunsOn folds a j → length (led.turns j) ≡ n
     turns-long j run = (led.whole j run).long
 
     -- what the context makes of a word of the cell

@@ -2,7 +2,7 @@ use Rattle.std.proofs.Common.{sym, subst}
 use Rattle.std.proofs.lemmas.Result.{err_from_is_err_and}
 use Rattle.presented_checker.specs.Refused.{HasOrder}
 use Rattle.presented_checker.proofs.Accepted.{presents, order}
-use Rattle.presented_checker.proofs.checking.order_of.Goals as goal
+use Rattle.presented_checker.proofs.checking.finite_order_of.Goals as goal
 
 pub returns-in_err-keep-clause-no : goal.returns-in_err-keep-clause-no
 returns-in_err-keep-clause-no g c =

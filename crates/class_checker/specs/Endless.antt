@@ -1,0 +1,16 @@
+-- Presentations with infinitely many elements. This project's own.
+use Rattle.std.specs.Prelude.{ℕ, ◌<◌, List, length}
+use Rattle.presentations.specs.declared.TheConstants.{LETTERS}
+use Rattle.presentations.specs.Vectors.{only}
+use Rattle.presented_text.specs.Said.{PresentedSaid}
+use Rattle.presented_claims.specs.Claims.{IsElement}
+use Rattle.class_tables.specs.Separated.{AreSettledClasses}
+use Rattle.class_tables.specs.Tested.{ClassTables}
+
+-- Each power of some letter is an element: so there are infinitely many.
+abbrev pub IsEndless : PresentedSaid → Type 0
+IsEndless c = (i : ℕ) × (i < length c.letters) × ((k : ℕ) → IsElement c (only LETTERS i k))
+
+-- By some weights of letters the classes are settled.
+abbrev pub AreSettled : PresentedSaid → ClassTables → Type 0
+AreSettled c v = (weights : List ℕ) × AreSettledClasses c v.lists v.tables v.bits weights

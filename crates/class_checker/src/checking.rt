@@ -1,0 +1,205 @@
+//! The check of a presentation with infinitely many elements, by their classes.
+ghost use Rattle.std.specs.Prelude.{◌≡◌, ◌≢◌, ◌<◌, ℕ, IfOk, IfErr, IsTrue, All, length, slice_index};
+ghost use Rattle.presentations.specs.declared.TheConstants.{LETTERS};
+ghost use Rattle.presentations.specs.Vectors.{only};
+ghost use Rattle.kept_checker.specs.Numbers.{KeptPositions, AreFamiliesTested};
+ghost use Rattle.presented_text.specs.Said.{IsInRanges};
+ghost use Rattle.presented_claims.specs.Claims.{IsElement};
+ghost use Rattle.presented_claims.specs.Presents.{Presents};
+ghost use Rattle.presented_forms.specs.Form.{IsInForm};
+ghost use Rattle.presented_tables.specs.Faults.{IsTrueOf};
+ghost use Rattle.class_tables.specs.Tested.{AreTestedClasses};
+ghost use Rattle.class_checker.specs.Endless.{IsEndless, AreSettled};
+
+use allocation::Memory;
+use class_tables::{ClassTables, class_tables_of, folds_for};
+use kept_checker::{NotFound, tested_families};
+use normal_forms::Rule;
+use presentations::LETTERS;
+use presented_tables::{Presented, TablesFault};
+use std::alloc::Allocator;
+
+/// The most positions that are kept.
+const MOST_KEPT: usize = 65536;
+
+/// How many times a position has a heap that is free at it.
+const CAP: usize = 2;
+
+/// How many letters of one kind more than relations the labels have at most.
+const MOST_MORE: u16 = 4;
+
+/// Whether the left word has some letter besides letter `i`.
+fn is_free_of(rule: &Rule, i: usize) -> bool
+    ensures { IsTrue result → (j : ℕ) × (j < LETTERS) × (j ≢ i) × (0 < slice_index rule.now.0 j) }
+{
+    for j in 0..LETTERS {
+        if j != i && rule.left[j] > 0 {
+            return true;
+        }
+    }
+    false
+}
+
+/// Whether no left word is seen to be a power of letter `i`.
+fn are_free_of(rules: &[Rule], i: usize) -> bool
+    ensures { IsTrue result → All (λ r. (j : ℕ) × (j < LETTERS) × (j ≢ i) × (0 < slice_index r.0 j)) rules.now }
+{
+    for k in 0..rules.len() {
+        if !is_free_of(&rules[k], i) {
+            return false;
+        }
+    }
+    true
+}
+
+/// Whether each power of letter `i` is an element.
+fn runs_on<A: Allocator>(p: &Presented<A>, i: usize) -> bool
+    requires { i < length p.now.letters }
+    ensures { IsTrue result → (k : ℕ) → IsElement p.now (only LETTERS i k) }
+{
+    let rules = p.basis.rules();
+    are_free_of(rules, i)
+}
+
+/// Whether there is a letter each power of which is an element.
+pub fn is_endless<A: Allocator>(p: &Presented<A>) -> bool
+    ensures { IsTrue result → IsEndless p.now }
+{
+    for i in 0..p.letters.len() {
+        if runs_on(p, i) {
+            return true;
+        }
+    }
+    false
+}
+
+/// So many weights of 1, but `more` for letters `i` and `j`.
+fn weights_of<A: Allocator + Copy>(
+    alloc: A,
+    count: usize,
+    i: usize,
+    j: usize,
+    more: u32,
+) -> Result<Vec<u32, A>, Memory> {
+    let mut weights = Vec::new(alloc);
+    for k in 0..count {
+        weights.push(if k == i || k == j { more } else { 1 })?;
+    }
+    Ok(weights)
+}
+
+/// Whether the classes are seen to be settled by weights of 1, but `more` for one letter or two.
+fn is_settled_by<A: Allocator + Copy>(
+    alloc: A,
+    p: &Presented<A>,
+    v: &ClassTables<A>,
+    i: usize,
+    j: usize,
+    more: u32,
+) -> Result<bool, Memory>
+    requires { AreTestedClasses p.now v.now }
+    ensures { IfOk result (λ b. IsTrue b → AreSettled p.now v.now) }
+{
+    let weights = weights_of(alloc, p.letters.len(), i, j, more)?;
+    Ok(v.are_settled(p, &weights))
+}
+
+/// Whether they are by some of these weights.
+fn is_settled<A: Allocator + Copy>(
+    alloc: A,
+    p: &Presented<A>,
+    v: &ClassTables<A>,
+) -> Result<bool, Memory>
+    requires { AreTestedClasses p.now v.now }
+    ensures { IfOk result (λ b. IsTrue b → AreSettled p.now v.now) }
+{
+    if is_settled_by(alloc, p, v, 0, 0, 1)? {
+        return Ok(true);
+    }
+    for i in 0..p.letters.len() {
+        for j in 0..i + 1 {
+            if is_settled_by(alloc, p, v, i, j, 2)? {
+                return Ok(true);
+            }
+        }
+    }
+    Ok(false)
+}
+
+/// Sees that the classes are settled.
+fn settle<A: Allocator + Copy>(
+    alloc: A,
+    p: &Presented<A>,
+    v: &ClassTables<A>,
+) -> Result<(), TablesFault>
+    requires { AreTestedClasses p.now v.now }
+    ensures settled { IfOk result (λ _. AreSettled p.now v.now) }
+    ensures fault { IfErr result (λ f. IsTrueOf p.now f) }
+{
+    match is_settled(alloc, p, v) {
+        Ok(true) => Ok(()),
+        Ok(false) => Err(TablesFault::Undecided),
+        Err(_) => Err(TablesFault::Memory),
+    }
+}
+
+/// Sees that no position of the tables is bad beside nothing.
+fn keep<A: Allocator + Copy>(
+    alloc: A,
+    p: &Presented<A>,
+    v: &ClassTables<A>,
+) -> Result<(), TablesFault>
+    ensures kept { IfOk result (λ _. (k : KeptPositions) × AreFamiliesTested v.now.tables v.now.turns k) }
+    ensures fault { IfErr result (λ f. IsTrueOf p.now f) }
+{
+    match tested_families(alloc, &v.tables, &v.turns, CAP, MOST_KEPT) {
+        Ok(_) => Ok(()),
+        Err(NotFound::Memory(_)) => Err(TablesFault::Memory),
+        Err(_) => Err(TablesFault::Undecided),
+    }
+}
+
+/// Sees that the presentation is its heaps' quotient, with labels of up to `more` letters of one kind more than relations
+/// have.
+fn present_with<A: Allocator + Copy>(
+    alloc: A,
+    p: &Presented<A>,
+    more: u16,
+) -> Result<(), TablesFault>
+    requires ranges { IsInRanges p.now }
+    requires in_form { IsInForm p.now }
+    ensures yes { IfOk result (λ _. Presents p.now) }
+    ensures fault { IfErr result (λ f. IsTrueOf p.now f) }
+{
+    let folds = folds_for(alloc, p, more)?;
+    let tables = class_tables_of(alloc, p, folds)?;
+    keep(alloc, p, &tables)?;
+    settle(alloc, p, &tables)?;
+    Ok(())
+}
+
+/// Sees that a presentation is the misère quotient of its heaps, though it has infinitely many elements.
+///
+/// # Errors
+///
+/// `Letters`, `Leaves` and `Ended` are true of the presentation, and refuse it. The others say nothing of it: no folds are
+/// found by which its classes are told apart and no position breaks the rule; and want of memory.
+pub fn present_by_classes<A: Allocator + Copy>(
+    alloc: A,
+    p: &Presented<A>,
+) -> Result<(), TablesFault>
+    requires ranges { IsInRanges p.now }
+    requires in_form { IsInForm p.now }
+    ensures yes { IfOk result (λ _. Presents p.now) }
+    ensures fault { IfErr result (λ f. IsTrueOf p.now f) }
+{
+    for more in 1..MOST_MORE + 1 {
+        match present_with(alloc, p, more) {
+            Ok(()) => return Ok(()),
+            Err(TablesFault::Undecided) => {}
+            Err(TablesFault::Limit) => {}
+            Err(fault) => return Err(fault),
+        }
+    }
+    Err(TablesFault::Undecided)
+}

@@ -1,0 +1,16 @@
+pub mod LedClasses
+pub mod Words
+pub mod Indexed
+pub mod Firsts
+pub mod Pushed
+pub mod TurnsAt
+pub mod Said
+pub mod Imaged
+pub mod Listed
+pub mod Claimed
+pub mod Turned
+pub mod Owned
+pub mod Lowering
+pub mod Apart
+pub mod Settled
+pub mod AllTested

@@ -1,0 +1,6 @@
+pub mod Classes
+pub mod Leads
+pub mod Tables
+pub mod Turns
+pub mod Separated
+pub mod Tested

@@ -1,0 +1,27 @@
+//! Tables of a presentation by classes of its elements, of which there may be infinitely many: beside a word, all elements
+//! of a class become elements of one class, and one normal form for each letter that runs on shows it.
+#![tactic(auto)]
+
+mod beside;
+mod classes;
+mod folding;
+mod leading;
+mod listing;
+mod lists;
+mod raising;
+mod rows;
+mod separating;
+mod steps;
+mod tables;
+mod thresholds;
+mod turning;
+mod weighing;
+
+pub use beside::heap_beside;
+pub use classes::ListedWords;
+pub use folding::folded;
+pub use leading::{Led, lead};
+pub use listing::classes_of;
+pub use lists::{ClassLists, Folds};
+pub use raising::folds_for;
+pub use tables::{ClassTables, class_tables_of};

@@ -1,0 +1,311 @@
+//! To which classes heaps take the elements of a class: a list, and a test of it on classes of a finer fold.
+ghost use Rattle.std.specs.Prelude.{◌≡◌, ◌<◌, ◌≤◌, ℕ, IfOk, IfErr, IfSome, IsTrue, length, slice_index};
+ghost use Rattle.kept_checker.specs.Numbers.{DoesTurn};
+ghost use Rattle.presented_tables.specs.Elements.{place};
+ghost use Rattle.presented_tables.specs.Faults.{IsTrueOf};
+ghost use Rattle.presented_claims.specs.Claims.{cycled};
+ghost use Rattle.word_cells.specs.Folds.{AreFiner};
+ghost use Rattle.class_tables.specs.Classes.{AreFolds, word_at};
+ghost use Rattle.class_tables.specs.Tables.{AreLists};
+ghost use Rattle.class_tables.specs.Turns.{AreFine, DoesTake, IsTurned, AreTurned};
+
+use crate::beside::{heap_word, led_fold};
+use crate::classes::ListedWords;
+use crate::folding::folded;
+use crate::listing::classes_of;
+use crate::lists::{ClassLists, MOST_CLASSES};
+use crate::rows::size_at;
+use crate::thresholds::{are_finer, are_folds};
+use kept_checker::{ClassTurns, LabelTables};
+use normal_forms::Exponents;
+use presented_tables::{HeapNumbers, Presented, TablesFault, is_word};
+use presented_text::LetterCycle;
+use std::alloc::{Allocator, Global};
+use std::marker::Model;
+
+/// A finer fold, and its classes.
+#[derive(Drop)]
+pub(crate) struct FineClasses<A: Allocator = Global> {
+    folds: Vec<LetterCycle, A>,
+    classes: ListedWords<A>,
+}
+
+impl<A: Allocator> Model for FineClasses<A> {
+    ghost use Rattle.class_tables.specs.Turns as turns;
+
+    ghost Value = { turns.FineClasses };
+
+    ghost view = { λ f. record { folds = f.folds.items; classes = f.classes } };
+}
+
+/// Whether these are seen to be thresholds and periods that are finer than those of the lists.
+fn are_fine_folds<A: Allocator>(p: &Presented<A>, l: &ClassLists<A>, folds: &[LetterCycle]) -> bool
+    ensures folds { IsTrue result → AreFolds p.now folds.now }
+    ensures finer { IsTrue result → AreFiner folds.now l.now.folds }
+{
+    are_folds(p, folds) && are_finer(folds, l.folds.as_slice())
+}
+
+/// The classes of a fold that is finer than that of the lists.
+fn fine_classes<A: Allocator + Copy>(
+    alloc: A,
+    p: &Presented<A>,
+    l: &ClassLists<A>,
+    folds: Vec<LetterCycle, A>,
+) -> Result<FineClasses<A>, TablesFault>
+    ensures fine { IfOk result (λ f. AreFine p.now l.now f) }
+    ensures fault { IfErr result (λ f. IsTrueOf p.now f) }
+{
+    if !are_fine_folds(p, l, &folds) {
+        return Err(TablesFault::Undecided);
+    }
+    let classes = classes_of(alloc, p, &folds, MOST_CLASSES)?;
+    Ok(FineClasses { folds, classes })
+}
+
+/// The first place of the word in the list, if it is there.
+fn first_place<A: Allocator>(list: &ListedWords<A>, word: &Exponents) -> Option<usize>
+    ensures { IfSome result (λ k. (k < length list.now) × (place list.now word.now ≡ k) × (word_at list.now k ≡ word.now)) }
+{
+    for k in 0..list.len() {
+        let there = list.get(k)?;
+        if is_word(there, word) {
+            return Some(k);
+        }
+    }
+    None
+}
+
+/// The class to which the heap of number `g` takes the elements of fine class `k`.
+fn taken<A: Allocator>(
+    p: &Presented<A>,
+    l: &ClassLists<A>,
+    s: &HeapNumbers<A>,
+    f: &FineClasses<A>,
+    k: usize,
+    g: usize,
+) -> Option<usize>
+    requires lists { AreLists p.now l.now }
+    requires fine { AreFine p.now l.now f.now }
+    ensures { IfSome result (λ z. DoesTake p.now l.now s.now f.now k g z) }
+{
+    let class = f.classes.get(k)?;
+    let n = size_at(s, g)?;
+    let fold = led_fold(p, &l.folds, &f.folds, class, &heap_word(p, n))?;
+    first_place(&l.classes, &fold)
+}
+
+/// The class of the elements of fine class `k`.
+fn class_of<A: Allocator>(l: &ClassLists<A>, f: &FineClasses<A>, k: usize) -> Option<usize>
+    ensures { IfSome result (λ x. place l.now.classes (cycled l.now.folds (word_at f.now.classes k)) ≡ x) }
+{
+    let class = f.classes.get(k)?;
+    first_place(&l.classes, &folded(&l.folds, class))
+}
+
+/// Marks where the heap of number `g` takes the classes: an entry for each two of them.
+fn mark_taken<A: Allocator>(
+    p: &Presented<A>,
+    l: &ClassLists<A>,
+    s: &HeapNumbers<A>,
+    f: &FineClasses<A>,
+    g: usize,
+    marks: &mut [bool],
+) -> Option<()>
+    requires lists { AreLists p.now l.now }
+    requires fine { AreFine p.now l.now f.now }
+{
+    for m in marks.iter_mut() {
+        *m = false;
+    }
+    for k in 0..f.classes.len() {
+        let z = taken(p, l, s, f, k, g)?;
+        let x = class_of(l, f, k)?;
+        let entry = x.checked_mul(l.classes.len())?.checked_add(z)?;
+        if entry < marks.len() {
+            marks[entry] = true;
+        }
+    }
+    Some(())
+}
+
+/// Adds a row to the list: where the marks say that a heap takes the classes.
+fn add_row<A: Allocator>(
+    p: &Presented<A>,
+    turns: &mut ClassTurns<A>,
+    count: usize,
+    marks: &[bool],
+) -> Result<(), TablesFault>
+    ensures { IfErr result (λ f. IsTrueOf p.now f) }
+{
+    for x in 0..count {
+        let first = turns.onto.len().min(u32::MAX as usize) as u32;
+        turns.first.push(first)?;
+        for z in 0..count {
+            if marks.get(x.saturating_mul(count).saturating_add(z)) == Some(&true) {
+                turns.onto.push(z.min(u32::MAX as usize) as u32)?;
+            }
+        }
+    }
+    Ok(())
+}
+
+/// A list of where heaps take the classes. Nothing is promised of it.
+fn made<A: Allocator + Copy>(
+    alloc: A,
+    p: &Presented<A>,
+    l: &ClassLists<A>,
+    s: &HeapNumbers<A>,
+    f: &FineClasses<A>,
+) -> Result<ClassTurns<A>, TablesFault>
+    requires lists { AreLists p.now l.now }
+    requires fine { AreFine p.now l.now f.now }
+    ensures fault { IfErr result (λ f. IsTrueOf p.now f) }
+{
+    let count = l.classes.len();
+    let mut marks = Vec::new(alloc);
+    for _ in 0..count.saturating_mul(count) {
+        marks.push(false)?;
+    }
+    let mut turns = ClassTurns {
+        first: Vec::new(alloc),
+        onto: Vec::new(alloc),
+    };
+    for g in 0..s.sizes.len() {
+        if mark_taken(p, l, s, f, g, &mut marks).is_none() {
+            return Err(TablesFault::Undecided);
+        }
+        add_row(p, &mut turns, count, &marks)?;
+    }
+    let end = turns.onto.len().min(u32::MAX as usize) as u32;
+    turns.first.push(end)?;
+    Ok(turns)
+}
+
+/// Whether class `z` is seen to be in the list of the classes to which heap `g` takes class `x`.
+fn does_turn<A: Allocator>(
+    t: &LabelTables<A>,
+    u: &ClassTurns<A>,
+    x: usize,
+    g: usize,
+    z: usize,
+) -> Option<bool>
+    ensures { IfSome result (λ b. IsTrue b → DoesTurn t.now u.now x g z) }
+{
+    let cell = g.checked_mul(t.classes)?.checked_add(x)?;
+    let from = *u.first.get(cell)? as usize;
+    let to = *u.first.get(cell.checked_add(1)?)? as usize;
+    for o in from..to {
+        if *u.onto.get(o)? as usize == z {
+            return Some(true);
+        }
+    }
+    Some(false)
+}
+
+/// Whether the class to which heap `g` takes fine class `k` is in the list, if that is seen.
+fn turned<A: Allocator>(
+    p: &Presented<A>,
+    l: &ClassLists<A>,
+    s: &HeapNumbers<A>,
+    f: &FineClasses<A>,
+    t: &LabelTables<A>,
+    u: &ClassTurns<A>,
+    k: usize,
+    g: usize,
+) -> Option<bool>
+    requires lists { AreLists p.now l.now }
+    requires fine { AreFine p.now l.now f.now }
+    ensures { IfSome result (λ b. IsTrue b → IsTurned p.now l.now s.now f.now t.now u.now k g) }
+{
+    let z = taken(p, l, s, f, k, g)?;
+    let x = class_of(l, f, k)?;
+    does_turn(t, u, x, g, z)
+}
+
+/// Whether it is seen to be in the list.
+fn is_turned<A: Allocator>(
+    p: &Presented<A>,
+    l: &ClassLists<A>,
+    s: &HeapNumbers<A>,
+    f: &FineClasses<A>,
+    t: &LabelTables<A>,
+    u: &ClassTurns<A>,
+    k: usize,
+    g: usize,
+) -> bool
+    requires lists { AreLists p.now l.now }
+    requires fine { AreFine p.now l.now f.now }
+    ensures { IsTrue result → IsTurned p.now l.now s.now f.now t.now u.now k g }
+{
+    match turned(p, l, s, f, t, u, k, g) {
+        Some(b) => b,
+        None => false,
+    }
+}
+
+/// The same of each heap.
+fn are_heaps_turned<A: Allocator>(
+    p: &Presented<A>,
+    l: &ClassLists<A>,
+    s: &HeapNumbers<A>,
+    f: &FineClasses<A>,
+    t: &LabelTables<A>,
+    u: &ClassTurns<A>,
+    k: usize,
+) -> bool
+    requires lists { AreLists p.now l.now }
+    requires fine { AreFine p.now l.now f.now }
+    ensures { IsTrue result → (g : ℕ) → g < t.now.heaps → IsTurned p.now l.now s.now f.now t.now u.now k g }
+{
+    for g in 0..t.heaps {
+        if !is_turned(p, l, s, f, t, u, k, g) {
+            return false;
+        }
+    }
+    true
+}
+
+/// The same of each fine class.
+fn are_turned<A: Allocator>(
+    p: &Presented<A>,
+    l: &ClassLists<A>,
+    s: &HeapNumbers<A>,
+    f: &FineClasses<A>,
+    t: &LabelTables<A>,
+    u: &ClassTurns<A>,
+) -> bool
+    requires lists { AreLists p.now l.now }
+    requires fine { AreFine p.now l.now f.now }
+    ensures { IsTrue result → (k g : ℕ) → k < length f.now.classes → g < t.now.heaps
+        → IsTurned p.now l.now s.now f.now t.now u.now k g }
+{
+    for k in 0..f.classes.len() {
+        if !are_heaps_turned(p, l, s, f, t, u, k) {
+            return false;
+        }
+    }
+    true
+}
+
+/// The classes to which heaps take others, seen on classes of a finer fold.
+pub(crate) fn turns_of<A: Allocator + Copy>(
+    alloc: A,
+    p: &Presented<A>,
+    l: &ClassLists<A>,
+    s: &HeapNumbers<A>,
+    t: &LabelTables<A>,
+    fine: Vec<LetterCycle, A>,
+) -> Result<ClassTurns<A>, TablesFault>
+    requires lists { AreLists p.now l.now }
+    ensures turned { IfOk result (λ u. AreTurned p.now l.now s.now t.now u) }
+    ensures fault { IfErr result (λ f. IsTrueOf p.now f) }
+{
+    let fine = fine_classes(alloc, p, l, fine)?;
+    let turns = made(alloc, p, l, s, &fine)?;
+    if are_turned(p, l, s, &fine, t, &turns) {
+        Ok(turns)
+    } else {
+        Err(TablesFault::Undecided)
+    }
+}

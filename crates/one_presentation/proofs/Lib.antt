@@ -1,0 +1,12 @@
+pub mod Each
+pub mod Lists
+pub mod Orders
+pub mod Bases
+pub mod Closed
+pub mod Least
+pub mod Cycles
+pub mod Portion
+pub mod Words
+pub mod One
+pub mod Heaps
+pub mod Final
