@@ -7,7 +7,7 @@ use Rattle.dominance_text.specs.Spelling.{SpellsDominance}
 use Rattle.answers.specs.ByteVerdicts.ByteVerdict.{Outcome as Refuted}
 use Rattle.infinite_answers.specs.Answers.{Why, Text, Law, Order, Outcome, Limit, Memory, Part, Idle, Undecided, Ray}
 use Rattle.verdict_texts.specs.Lines.{IsTextOf, no_line}
-use Rattle.whole_checker.specs.Solved.{IsSolved, IsRefusedWhole}
+use Rattle.whole_checker.specs.Solved.{IsSolved, IsRefutedWhole}
 
 -- the line of a whole game that is solved
 abbrev pub whole_line : List ℕ → List ℕ
@@ -37,5 +37,5 @@ BeginsWhole bytes =
 pub data TellsWhole (bytes : List ℕ) : List ℕ → Bool → Type 0 where
   Solved : {text : List ℕ} {accepted : Bool} (c : DominanceSaid) → SpellsDominance bytes c
       → IsSolved c → text ≡ whole_line c.code → accepted ≡ true → TellsWhole bytes text accepted
-  Refused : {text : List ℕ} {accepted : Bool} (why : Why) → IsRefusedWhole bytes why
+  Refused : {text : List ℕ} {accepted : Bool} (why : Why) → IsRefutedWhole bytes why
       → IsRefusalText why text → accepted ≡ false → TellsWhole bytes text accepted

@@ -7,7 +7,7 @@ use crate::refusals::refusal_text;
 use allocation::Memory;
 use certificate_text::LONGEST_TEXT;
 use std::alloc::Global;
-use whole_checker::{WholeGame, check_whole};
+use whole_checker::{WholeGame, judge_whole};
 
 /// Whether the bytes begin with the first word of such texts.
 fn has_first_word(bytes: &[u8]) -> bool
@@ -27,7 +27,7 @@ pub fn begins_whole(bytes: &[u8]) -> bool
 pub fn judged_whole(alloc: Global, bytes: &[u8]) -> Result<Result<WholeGame, Vec<u8>>, Memory>
     ensures { IfOk result (JudgesWhole bytes.now) }
 {
-    let refusal = match check_whole(alloc, bytes) {
+    let refusal = match judge_whole(alloc, bytes) {
         Ok(game) => return Ok(Ok(game)),
         Err(refusal) => refusal,
     };

@@ -2,7 +2,7 @@
 use Rattle.std.proofs.Common.{◌≡◌, ℕ, ◌+◌, ◌-◌, ◌*◌, ◌/◌, ◌%◌, ◌↔◌, nat_lt, if◌then◌else◌, Bool, List, Result, Ok, Err, IfOk, IsTrue, ap, ap₂, ◌∙◌, subst}
 use Rattle.std.proofs.Math.Path.{fun_ext}
 use Rattle.misere_theory.specs.Games.{IsHeap, IsPosition, Indistinguishable}
-use Rattle.misere_theory.specs.Labels.{PredictsOutcomes, RepresentsBy, says_by}
+use Rattle.misere_theory.specs.Labels.{PredictsOutcomes, RepresentsBy, BreaksRule, says_by}
 use Rattle.misere_theory.specs.Parts.{IsInfinite}
 use Rattle.misere_theory.specs.Quotients.{Claim, Represents}
 use Rattle.dominance.specs.Finite.{HasSmallWins}
@@ -55,3 +55,10 @@ pub if_represented : {E : Type 0} (c : DominanceSaid) (s : Shape) (ranks : List 
 if_represented c s ranks (Ok b) e each all = λ t.
     subst (λ f. RepresentsBy IsElement IsHeap c.code (claim_by f)) (fun_ext (same_label c s ranks e each)) (all t)
 if_represented c s ranks (Err f) e each all = tt
+
+pub if_broken : (c : DominanceSaid) (s : Shape) (ranks : List Rank) (code X : List ℕ) → s ≡ shape_in c
+    → ((n : ℕ) → triple_in (rank_at ranks n) ≡ listed_triple c n)
+    → BreaksRule code (says_by (claim_by (label_by s ranks))) X
+    → BreaksRule code (says_by (claim_by (label_of c))) X
+if_broken c s ranks code X e each broken =
+    subst (λ f. BreaksRule code (says_by (claim_by f)) X) (fun_ext (same_label c s ranks e each)) broken

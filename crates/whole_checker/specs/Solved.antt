@@ -2,7 +2,7 @@
 -- Siegel's misère quotients; the triples are this project's own.
 use Rattle.std.specs.Prelude.{◌≡◌, ◌↔◌, ℕ, List}
 use Rattle.misere_theory.specs.Games.{IsHeap, IsPosition, Indistinguishable}
-use Rattle.misere_theory.specs.Labels.{PredictsOutcomes, says_by}
+use Rattle.misere_theory.specs.Labels.{PredictsOutcomes, BreaksRule, says_by}
 use Rattle.misere_theory.specs.Parts.{IsInfinite}
 use Rattle.misere_theory.specs.Quotients.{Claim, Represents}
 use Rattle.dominance.specs.Finite.{HasSmallWins}
@@ -10,7 +10,7 @@ use Rattle.dominance.specs.Triples.{claim_by, triple_of}
 use Rattle.dominance_text.specs.Said.{DominanceSaid}
 use Rattle.dominance_text.specs.Labels.{label_of}
 use Rattle.dominance_text.specs.Spelling.{SpellsDominance}
-use Rattle.infinite_answers.specs.Answers.{Why, Text, Undecided, Memory}
+use Rattle.infinite_answers.specs.Answers.{Why, Text, Outcome, Undecided, Memory}
 
 -- What is said is right of the whole game, of any number of heaps of any size. The product of the heaps'
 -- triples tells the outcome of each position, and two positions are indistinguishable exactly if their
@@ -24,6 +24,12 @@ pub record IsSolved (c : DominanceSaid) : Type 0 where
   pub no_claim : (d : Claim) → Represents IsHeap c.code d → ⊥
   pub wins : HasSmallWins c.code c.start
 
+-- What is said of the game of this code breaks the rule of misère outcomes at the position X: so it is wrong
+-- of X, or of one of its options.
+abbrev pub BreaksAt : DominanceSaid → List ℕ → List ℕ → Type 0
+BreaksAt c code X =
+    (code ≡ c.code) × IsPosition IsHeap X × BreaksRule code (says_by (claim_by (label_of c))) X
+
 -- The bytes are refused: Text if they spell nothing, Memory at any time, and Undecided if they spell
 -- something that the test doesn't show to be right. It may be right all the same.
 abbrev pub IsRefusedWhole : List ℕ → Why → Type 0
@@ -31,3 +37,9 @@ IsRefusedWhole bytes Text = (c : DominanceSaid) → SpellsDominance bytes c → 
 IsRefusedWhole bytes Undecided = (c : DominanceSaid) × SpellsDominance bytes c
 IsRefusedWhole bytes Memory = Unit {0}
 IsRefusedWhole bytes _ = ⊥
+
+-- The same, and with a position if what they spell breaks the rule there.
+abbrev pub IsRefutedWhole : List ℕ → Why → Type 0
+IsRefutedWhole bytes (Outcome code X) =
+    (c : DominanceSaid) × SpellsDominance bytes c × BreaksAt c code X
+IsRefutedWhole bytes why = IsRefusedWhole bytes why

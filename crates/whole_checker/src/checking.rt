@@ -1,5 +1,5 @@
 //! A check of a whole game from its beginning to its end.
-ghost use Rattle.std.specs.Prelude.{◌≡◌, IfOk, IfErr, IsTrue};
+ghost use Rattle.std.specs.Prelude.{◌≡◌, ℕ, List, IfOk, IfErr, IsTrue};
 ghost use Rattle.misere_theory.specs.Games.{IsHeap};
 ghost use Rattle.misere_theory.specs.Labels.{RepresentsBy};
 ghost use Rattle.dominance.specs.Triples.{IsElement, claim_by};
@@ -7,13 +7,14 @@ ghost use Rattle.dominance_text.specs.Labels.{label_of};
 ghost use Rattle.dominance_text.specs.Said.{IsInRanges};
 ghost use Rattle.dominance_text.specs.Spelling.{SpellsDominance};
 ghost use Rattle.infinite_answers.specs.Refusals.{refused};
-ghost use Rattle.whole_checker.specs.Solved.{IsRefusedWhole, IsSolved};
+ghost use Rattle.whole_checker.specs.Solved.{IsRefusedWhole, IsRefutedWhole, IsSolved};
 
 use crate::game::WholeGame;
 use crate::ranks::ranks;
 use allocation::{Memory, SmallAllocator};
 use dominance_certificate::{DominanceText, TextFault, read};
 use dominance_checker::{Shape, is_accepted, is_represented};
+use dominance_rule::failing_position;
 use infinite_answers::InfiniteRefusal;
 use std::alloc::Allocator;
 
@@ -38,6 +39,37 @@ fn is_solved<A: SmallAllocator + Copy>(alloc: A, text: &DominanceText<A>) -> Res
     is_accepted(alloc, &text.code, shape, &ranks)
 }
 
+/// Why a text isn't seen to be right: the rule fails at a position, which is looked for, or none is found.
+fn refuted<A: SmallAllocator + Copy>(alloc: A, text: &DominanceText<A>) -> InfiniteRefusal<A>
+    requires spelled { IsInRanges text.now }
+    ensures { (bytes : List ℕ) → SpellsDominance bytes text.now → IsRefutedWhole bytes (refused result) }
+{
+    let Ok(ranks) = ranks(alloc, text) else {
+        return InfiniteRefusal::Memory;
+    };
+    match failing_position(alloc, &text.code, shape_of(text), &ranks) {
+        Ok(Some(position)) => InfiniteRefusal::Outcome(text.code, position),
+        Ok(None) => InfiniteRefusal::Undecided,
+        Err(Memory) => InfiniteRefusal::Memory,
+    }
+}
+
+/// What the bytes spell.
+fn text_of<A: SmallAllocator + Copy>(
+    alloc: A,
+    bytes: &[u8],
+) -> Result<DominanceText<A>, InfiniteRefusal<A>>
+    ensures yes { IfOk result (λ c. SpellsDominance bytes.now c) }
+    ensures no { IfErr result (λ r. IsRefusedWhole bytes.now (refused r)) }
+    ensures refuted { IfErr result (λ r. IsRefutedWhole bytes.now (refused r)) }
+{
+    match read(alloc, bytes) {
+        Err(TextFault::Text) => Err(InfiniteRefusal::Text),
+        Err(TextFault::Memory) => Err(InfiniteRefusal::Memory),
+        Ok(text) => Ok(text),
+    }
+}
+
 /// Whether the bytes are a text of a whole game that is right: it tells the outcome of each position, of any
 /// number of heaps of any size, and which positions are indistinguishable; and the quotient is infinite. Each
 /// refusal is true of the bytes: `Text`, `Undecided` or `Memory`.
@@ -48,14 +80,27 @@ pub fn check_whole<A: SmallAllocator + Copy>(
     ensures yes { IfOk result (λ k. SpellsDominance bytes.now k × IsSolved k) }
     ensures no { IfErr result (λ r. IsRefusedWhole bytes.now (refused r)) }
 {
-    let text = match read(alloc, bytes) {
-        Err(TextFault::Text) => return Err(InfiniteRefusal::Text),
-        Err(TextFault::Memory) => return Err(InfiniteRefusal::Memory),
-        Ok(text) => text,
-    };
+    let text = text_of(alloc, bytes)?;
     match is_solved(alloc, &text) {
         Ok(true) => Ok(WholeGame::new(text)),
         Ok(false) => Err(InfiniteRefusal::Undecided),
+        Err(Memory) => Err(InfiniteRefusal::Memory),
+    }
+}
+
+/// The same, and if the test doesn't pass a position is looked for at which what the bytes spell breaks the rule
+/// of misère outcomes. So each refusal is true of the bytes: `Text`, `Outcome`, `Undecided` or `Memory`.
+pub fn judge_whole<A: SmallAllocator + Copy>(
+    alloc: A,
+    bytes: &[u8],
+) -> Result<WholeGame<A>, InfiniteRefusal<A>>
+    ensures yes { IfOk result (λ k. SpellsDominance bytes.now k × IsSolved k) }
+    ensures no { IfErr result (λ r. IsRefutedWhole bytes.now (refused r)) }
+{
+    let text = text_of(alloc, bytes)?;
+    match is_solved(alloc, &text) {
+        Ok(true) => Ok(WholeGame::new(text)),
+        Ok(false) => Err(refuted(alloc, &text)),
         Err(Memory) => Err(InfiniteRefusal::Memory),
     }
 }

@@ -4,7 +4,9 @@
 
 mod checking;
 mod game;
+mod laws;
 mod ranks;
 
-pub use checking::{check_whole, makes_all};
+pub use checking::{check_whole, judge_whole, makes_all};
 pub use game::WholeGame;
+pub use laws::broken_rules_show_wrong_claims;

@@ -1,0 +1,4 @@
+pub mod Below
+pub mod Moved
+pub mod Looked
+pub mod Sizes
