@@ -21,7 +21,9 @@ sys.path.insert(0, str(here.parent / "scripts"))
 
 LONGEST_NAME = 40
 CLOSED = "Closed under the global context"
-FAULTS = ("Text", "Law", "Word", "Order", "Period", "Apart", "Outcome")  # as coq/Faults.v names what a text has
+# What a text has, as coq/Faults.v names it; and as coq/TracksFaults.v does of a text with tracks, after "No"
+FAULTS = ("Text", "Law", "Word", "Order", "Period", "Apart", "Outcome")
+FAULTS_OF_TRACKS = ("Text", "Law", "Order", "Outcome", "Part", "Idle", "Undecided", "Ray")
 
 
 class Stated(Protocol):
@@ -32,11 +34,11 @@ class Stated(Protocol):
         ...
 
     @property
-    def head(self) -> str:
+    def text(self) -> bytes:
         ...
 
     @property
-    def text(self) -> bytes:
+    def needs(self) -> tuple[str, ...]:
         ...
 
     @property
@@ -64,8 +66,10 @@ class Text:
         """The files of the theory with what the theorem says, and with what proves it."""
         if self.is_whole:
             return ("WholeText", "Whole")
+        if self.is_presentation:
+            return ("PresentedText",)
         if self.is_infinite:
-            return ("Infinite", "Shown")
+            return ("TracksFaults", "Infinite", "Shown")
         if self.fault:
             return ("Faults", "Answers")
         return ("Main",) if self.right else ("Converse",)
@@ -81,11 +85,18 @@ class Text:
         return self.text.startswith(b"mqw ")
 
     @property
+    def is_presentation(self) -> bool:
+        """A text of a presentation: what it shows is that generators and relations are the quotient of its heaps."""
+        return self.text.startswith(b"mqp ")
+
+    @property
     def theorem(self) -> str:
         if not self.right:
             return "refused_" + self.name
         if self.is_whole:
             return "whole_" + self.name
+        if self.is_presentation:
+            return "presentation_" + self.name
         return ("infinite_" if self.is_infinite else "quotient_of_") + self.name
 
     def line(self, name: str, otherwise: str) -> str:
@@ -103,7 +114,7 @@ class Text:
     @property
     def last_heap(self) -> int:
         """0 for a full certificate."""
-        if self.is_infinite:
+        if self.is_infinite or self.is_presentation:
             return number(self.line("heaps", "0"))
         return max(number(self.line("start", "1")) - 1, 0) if self.line("period", "1") == "0" else 0
 
@@ -112,9 +123,10 @@ class Text:
         text = f"\nDefinition text_of_{self.name} : text := {literal(self.text)}.\n\n"
         if self.is_whole:
             return text + self.source_of_whole()
+        if self.is_presentation:
+            return text + self.source_of_presentation()
         if not self.right and self.is_infinite:
-            said = f"Theorem {self.theorem} : shown_by text_of_{self.name} = None.\n"
-            return text + said + "Proof. vm_cast_no_check (eq_refl (@None (code * N))). Time Qed.\n"
+            return text + self.source_of_tracks_fault()
         if self.fault:
             said = f"Theorem {self.theorem} : is_true_of text_of_{self.name} {self.fault}.\n"
             return text + said + f"Proof. apply verdict_right. vm_cast_no_check (eq_refl {self.fault}). Time Qed.\n"
@@ -131,6 +143,32 @@ class Text:
         kind = f"(UpTo {self.last_heap})" if self.last_heap else "Whole"
         said = f"Theorem {self.theorem} : certifies text_of_{self.name} {kind} [{digits}].\n"
         return text + said + "Proof. apply check_sound. vm_cast_no_check (eq_refl true). Time Qed.\n"
+
+    def source_of_tracks_fault(self) -> str:
+        """The theorem of a text with tracks that is refused: that it has this fault, or where none is named the one
+        that Coq finds."""
+        if self.fault:
+            said = f"Theorem {self.theorem} : is_true_of_tracks text_of_{self.name} No{self.fault}.\n"
+            return said + f"Proof. apply has_tracks_fault. vm_cast_no_check (eq_refl No{self.fault}). Time Qed.\n"
+        answer = f"answer_of_{self.name}"
+        found = f"Definition {answer} := Eval vm_compute in tracks_verdict text_of_{self.name}.\n"
+        said = f"Theorem {self.theorem} : is_true_of_tracks text_of_{self.name} {answer} /\\ {answer} <> Shows.\n"
+        proof = f"split; [apply has_tracks_fault; vm_cast_no_check (eq_refl {answer}) | discriminate]"
+        return found + said + f"Proof. {proof}. Time Qed.\n"
+
+    def source_of_presentation(self) -> str:
+        """The theorem of a text of a presentation."""
+        if self.fault:
+            said = f"Theorem {self.theorem} : forall c, ~ spells_presentation text_of_{self.name} c.\n"
+            proof = "apply unread_presentation. vm_cast_no_check (eq_refl (@None presentation))"
+            return said + f"Proof. {proof}. Time Qed.\n"
+        if not self.right:
+            said = f"Theorem {self.theorem} : presented_by text_of_{self.name} = None.\n"
+            return said + "Proof. vm_cast_no_check (eq_refl (@None (code * N))). Time Qed.\n"
+        game = f"[{self.digits}] {self.last_heap}"
+        said = f"Theorem {self.theorem} : presents_it text_of_{self.name} {game}.\n"
+        found = f"(eq_refl (Some ([{self.digits}], {self.last_heap})))"
+        return said + f"Proof. apply presented_by_right. vm_cast_no_check {found}. Time Qed.\n"
 
     def source_of_whole(self) -> str:
         """The theorem of a text of a whole game."""
@@ -198,17 +236,19 @@ def certificate(text: bytes) -> Text:
     return Text(name_of(it.code, it.last_heap), text)
 
 
-def fault_of(name: str) -> str:
-    begin = name.split("_")[0].capitalize()
-    return begin if begin in FAULTS else ""
+def fault_of(file: pathlib.Path) -> str:
+    """The fault with which the name of a file begins."""
+    begin = file.stem.split("_")[0].capitalize()
+    return begin if begin in (FAULTS_OF_TRACKS if file.suffix == ".mqi" else FAULTS) else ""
 
 
 def in_folder(folder: pathlib.Path, right: bool = True) -> list[Text]:
-    """The certificates of a folder, by their files' names. Those of refused ones begin with their fault."""
+    """The certificates of a folder, by their files' names. Those of refused ones begin with their fault; presentations
+    are left out there, since of these no fault is proved."""
     return [
-        Text(re.sub(r"\W", "_", file.stem), file.read_bytes(), right, "" if right else fault_of(file.stem))
+        Text(re.sub(r"\W", "_", file.stem), file.read_bytes(), right, "" if right else fault_of(file))
         for file in sorted(folder.iterdir())
-        if file.suffix in (".mqc", ".mqi", ".mqw")
+        if file.suffix in (".mqc", ".mqi", ".mqw", ".mqp") and (right or file.suffix != ".mqp")
     ]
 
 

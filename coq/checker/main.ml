@@ -11,11 +11,12 @@ let help =
   \    no NUMBER NAME           the fault, 1 Text to 7 Outcome; nothing more is said of 7\n\
    and of one of an infinite quotient, which begins with `mqi`, that of `misere infinite`:\n\
   \    infinite CODE heaps LAST [without HEAPS]\n\
-  \    no                       it isn't accepted; the fault isn't told\n\
+  \    no NUMBER NAME           the fault: 1 Text, 2 Law, 4 Order, 7 Outcome, 31 Part, 32 Idle, 34 Ray; or\n\
+  \    no 33 Undecided          it isn't seen to be right, nor to be wrong\n\
    and of one of a whole game, which begins with `mqw`, that of `misere infinite` too:\n\
   \    infinite CODE whole\n\
   \    no 1 Text                it is no such text\n\
-  \    no 33 Undecided          it isn't seen to be right\n\
+  \    no 33 Undecided          it isn't seen to be right; misere may say 7, and where it is wrong\n\
    Of several files each line has the file's name and a tab before it. There is no limit: `no 8 Limit` is\n\
    never said.\n\n\
    The status is 0 if all are accepted, 1 if one isn't, 2 if no file is named, 3 if one can't be read or stack or\n\
