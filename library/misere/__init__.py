@@ -9,14 +9,15 @@
     q.table[2][3], q.phi(10**18), q.portion
     print(q.describe())                    # generators and relations, as the literature prints them
     q.tame, q.isomorphic(misere.solve("0.3"))  # 2, since it is T_2, one of Nim's; False
+    q.apart([2], [1, 2, 2])                # Apart((1,), ('N', 'P')): what tells two positions apart; or None
     misere.Catalogue()["Kayles"]           # that of the atlas, by its code or its name
     misere.certify("0.1", [[0, 1], [1, 0]], heaps=[1, 0], portion=[1], period=1)  # one's own, in any numbering
     misere.check_infinite(pathlib.Path("0.354_heaps_5.mqi")).outcome([2, 4] + 7 * [5])  # 'P': no finite one says so
 
 What outcome, value, answer and winning_move give is proved of every position, of any number of heaps of 1 to 10^18 (of
 a partial certificate: of its heaps), and so is what outcomes, values and answers give of many. describe's text is
-proved too. table, phi and portion are read off the certificate's text, which a yes makes the misère quotient; tame and
-isomorphic are computed of these by the module, and tested.
+proved too. table, phi and portion are read off the certificate's text, which a yes makes the misère quotient; tame,
+isomorphic and apart are computed of these by the module, and tested.
 
 The library checks the certificate once, and keeps what it certifies as long as there is the quotient, or until it is
 closed: q.close(), or `with misere.check(..) as q:`.
@@ -29,7 +30,7 @@ has its libraries; MISERE_LIBRARY names another file. Nothing else is needed. An
 child of a fork may go on asking, if the process had one thread alone.
 """
 
-from ._answers import Answer, Move, Outcome
+from ._answers import Answer, Apart, Move, Outcome, Triple
 from ._asked import Given
 from ._bounds import LIMIT
 from ._catalogue import Catalogue, InfiniteCatalogue
@@ -47,7 +48,7 @@ from ._faults import (
     Refused,
     WrongType,
 )
-from ._finder import certify, check, check_infinite, series, solve, solve_any, solve_furthest, solve_part
+from ._finder import certify, check, check_infinite, series, solve, solve_any, solve_furthest, solve_part, verify
 from ._infinite import InfiniteOutput, InfiniteQuotient
 from ._library import version
 from ._names import NAMES
@@ -59,6 +60,7 @@ __all__ = [
     "NAMES",
     "Absent",
     "Answer",
+    "Apart",
     "Beyond",
     "Catalogue",
     "Given",
@@ -78,6 +80,7 @@ __all__ = [
     "Output",
     "Quotient",
     "Refused",
+    "Triple",
     "WrongType",
     "__version__",
     "certify",
@@ -88,5 +91,6 @@ __all__ = [
     "solve_any",
     "solve_furthest",
     "solve_part",
+    "verify",
     "version",
 ]

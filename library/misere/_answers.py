@@ -19,6 +19,22 @@ class Move(NamedTuple):
     left: tuple[int, ...]
 
 
+class Apart(NamedTuple):
+    """What tells two positions apart: a third one, beside which the outcomes of the first and of the second differ."""
+
+    position: tuple[int, ...]
+    outcomes: tuple[Outcome, Outcome]
+
+
+class Triple(NamedTuple):
+    """The element of a position in a whole game: 1 if it is odd and else 0, its weight, and its lead, which is 0 if no heap
+    rules. Two positions are indistinguishable exactly if their triples are equal."""
+
+    odd: int
+    weight: int
+    lead: int
+
+
 #: What to do in a position: there is no move; each one loses; or the first one that wins.
 Answer = Union[Literal["ended", "lost"], Move]
 

@@ -18,8 +18,12 @@ from ._library import Call, Told, text_by
 Given = Union[bytes, str, "os.PathLike[str]"]
 # As many bytes are room for most descriptions
 USUAL_TEXT = 1 << 16
-# Which call checks a text that begins so
+# Which call checks a text that begins so, and what else is to be done with one
 CHECKS: Final = {b"mqc ": "check", b"mqi ": "check_infinite", b"mqw ": "check_infinite"}
+OTHERS: Final = {
+    b"mqp ": "a presentation is checked by the program alone, by `misere verify`",
+    b"tabl": "misere.certify takes a table of one's own",
+}
 Self = TypeVar("Self", bound="Asked")
 
 
@@ -117,12 +121,15 @@ class Asked:
 
     def _advised(self, stop: Refused, certificate: Given) -> Refused:
         """The refusal, which says so where a text is the name of a file, or one that another call checks."""
-        other = CHECKS.get(self._bytes[:4], self._check)
+        begun = self._bytes[:4]
+        other = CHECKS.get(begun, self._check)
         if stop.number != TEXT:
             return stop
         if isinstance(certificate, str) and _is_file(certificate):
             advice = f"misere.{self._check}(pathlib.Path({certificate!r})) reads it"
             return Refused(TEXT, f"{stop.said}; this text is the name of a file: {advice}")
+        if begun in OTHERS:
+            return Refused(TEXT, f"{stop.said}; {OTHERS[begun]}")
         return stop if other == self._check else Refused(TEXT, f"{stop.said}; misere.{other} checks such a text")
 
     @property
@@ -190,6 +197,11 @@ def number_of_output(output: str, outputs: Sequence[str | None]) -> int:
         names = ", ".join(it for it in outputs if it is not None)
         raise fault(NOT_IN_RANGE, f"an output is one of {names}, and {output!r} is none")
     return outputs.index(output)
+
+
+def is_infinite(certificate: Given) -> bool:
+    """Whether it begins as the text of an infinite quotient does."""
+    return CHECKS.get(_bytes_of(certificate)[:4]) == "check_infinite"
 
 
 def _bytes_of(certificate: Given) -> bytes:

@@ -17,7 +17,6 @@ from ._names import code_of
 from ._quotient import Quotient
 
 ATLAS = ("octal.json", "hexadecimal.json", "parts.json")
-INFINITE = "infinite"
 # A code or a name; or a code with the last heap of a partial certificate, which is 0 of a full one
 Key = Union[str, "tuple[str, int]"]
 Texts = dict["tuple[str, int]", str]
@@ -86,15 +85,16 @@ class Catalogue(_Kept[Quotient]):
 
 class InfiniteCatalogue(_Kept[InfiniteQuotient]):
     """The infinite quotients of a folder of certificates, NAME.mqi each, and NAME.mqw of whole games; or without a path
-    those of the atlas, of which none is of a whole game.
+    those of the atlas. (Those of whole games of four digits are in the repository alone.)
 
-    catalogue["0.07"] or catalogue["Dawson's Kayles"] is that of the fewest heaps, catalogue.furthest("0.07") that of the
-    most, and catalogue["0.07", 34] that of the heaps to 34: of several the one that leaves out the fewest. Each is checked
-    when it is asked for: those of the most heaps take seconds, all of them the check's."""
+    catalogue["0.26"] is that of the whole game, and catalogue["0.07"] or catalogue["Dawson's Kayles"], where there is none,
+    that of the fewest heaps. catalogue.furthest("0.07") is that of the most, and catalogue["0.07", 34] that of the heaps
+    to 34: of several the one that leaves out the fewest. Each is checked when it is asked for: those of the most heaps take
+    seconds, all of them the check's."""
 
     def __init__(self, path: str | os.PathLike[str] | None = None, limit: int = LIMIT) -> None:
-        folder = pathlib.Path(path) if path is not None else _atlas() / INFINITE
-        texts = _infinite_of(sorted(folder.glob("*.mq[iw]")))
+        folders = _infinite_folders() if path is None else [pathlib.Path(path)]
+        texts = _infinite_of(sorted(file for folder in folders for file in folder.glob("*.mq[iw]")))
         kinds: Kinds = {}
         for code, heaps in sorted(texts):
             kinds.setdefault(code, heaps)
@@ -102,6 +102,13 @@ class InfiniteCatalogue(_Kept[InfiniteQuotient]):
 
     def __getitem__(self, key: Key) -> InfiniteQuotient:
         return InfiniteQuotient(self.certificate(key), self._limit)
+
+
+def _infinite_folders() -> list[pathlib.Path]:
+    """Where the atlas has infinite quotients, of parts and of whole games. Those of some whole games are samples, which
+    stand beside the atlas, or in it where it is installed."""
+    atlas = _atlas()
+    return [atlas / "infinite", atlas / "whole", atlas / "whole/further", atlas.parent / "certificates"]
 
 
 def _infinite_of(files: Iterable[pathlib.Path]) -> Texts:

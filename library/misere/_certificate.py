@@ -27,6 +27,14 @@ class Certificate:
             self._table = self._rows if len(self._rows) == self.order else self._made()
         return self._table
 
+    def position_of(self, element: int) -> tuple[int, ...]:
+        """The position that the keys spell of an element: none of fewer heaps has it."""
+        heaps = []
+        while element:
+            element, heap = map(int, self._keys[element - 1].split(":"))
+            heaps.append(heap)
+        return tuple(sorted(heaps))
+
     def _made(self) -> Rows:
         """All rows, of those of the elements that heaps have: each other element is the product of its key."""
         rows = [tuple(range(self.order)), *self._rows]

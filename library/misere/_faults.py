@@ -2,6 +2,7 @@
 
 from __future__ import annotations
 
+import itertools
 from typing import Any
 
 #: The statuses of the library's calls. 1 to 9, 23 and 31 to 34 are the program's numbers too.
@@ -30,6 +31,8 @@ NAMES = {
     33: "Undecided",
     34: "Ray",
 }
+# So many heaps are listed one by one
+MOST_LISTED = 16
 TEXT, LAW, APART, OUTCOME, LIMIT_MET, MEMORY = 1, 2, 6, 7, 8, 9
 NOT_A_HEAP, NOT_A_CODE, GAVE_UP = 10, 12, 13
 NO_ROOM, NOT_IN_RANGE, NOT_DESCRIBED, NOT_OPEN, BEYOND = 14, 15, 16, 17, 23
@@ -73,8 +76,16 @@ class MisereError(Exception):
         self.position = position
 
     def __str__(self) -> str:
-        where = "" if self.position is None else f": {self.position}"
+        where = "" if self.position is None else f": {_listed(self.position)}"
         return f"{self.number} {self.name}" + (f": {self.said}" if self.said else "") + where
+
+
+def _listed(heaps: list[int]) -> str:
+    """Heaps as a list. Of many those that are equal and stand side by side are told as such, as in [4094·1, 3]."""
+    if len(heaps) <= MOST_LISTED:
+        return str(heaps)
+    groups = ((heap, len(list(equal))) for heap, equal in itertools.groupby(heaps))
+    return f"[{', '.join(str(heap) if count == 1 else f'{count}·{heap}' for heap, count in groups)}]"
 
 
 class Refused(MisereError, ValueError):

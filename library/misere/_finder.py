@@ -4,7 +4,7 @@ from __future__ import annotations
 
 from collections.abc import Iterable, Iterator, Sequence
 
-from ._asked import Given
+from ._asked import Given, is_infinite
 from ._bounds import (
     ELEMENTS,
     FEW_HEAPS,
@@ -44,6 +44,12 @@ def check_infinite(certificate: Given, limit: int = LIMIT) -> InfiniteQuotient:
     """The infinite quotient that the certificate is of; or it raises Refused. The certificate is given as to `check`, and
     begins with mqi 1, or with mqw 1 if it is of a whole game."""
     return InfiniteQuotient(certificate, limit)
+
+
+def verify(certificate: Given, limit: int = LIMIT) -> Quotient | InfiniteQuotient:
+    """The quotient that the certificate is of, finite or infinite, by its first word: what `check` gives, or `check_infinite`;
+    or it raises Refused. `misere verify` does so too, and takes presentations besides."""
+    return InfiniteQuotient(certificate, limit) if is_infinite(certificate) else Quotient(certificate, limit)
 
 
 def certify(

@@ -3,13 +3,17 @@
 from __future__ import annotations
 
 import json
+from collections.abc import Iterable
 from typing import Any, Literal, Optional
 
 from . import _certificate, _shown
+from ._answers import Triple
 from ._asked import Asked, Given, number_of_output
 from ._bounds import LIMIT
 from ._certified import Infinite
-from ._faults import NotDescribed, NotOpen
+from ._faults import NOT_DESCRIBED, NotDescribed, NotOpen, fault
+from ._given import heaps_of
+from ._triples import WholeGame
 
 #: What is told of an infinite quotient.
 InfiniteOutput = Literal["description", "latex", "json"]
@@ -46,6 +50,15 @@ class InfiniteQuotient(Asked):
     def _left_out(self) -> tuple[int, ...]:
         return self.without
 
+    def value(self, heaps: Iterable[int]) -> Triple:
+        """The element of a position of a whole game; of a certificate with tracks it raises NotDescribed. It is computed of
+        the certificate's lists by the module; `misere value` proves what it prints."""
+        if self.last_heap is not None:
+            raise fault(NOT_DESCRIBED, "a certificate with tracks has no triples")
+        given = heaps_of(heaps)
+        self.outcome(given)
+        return WholeGame(self._bytes.decode("ascii")).triple_of(given)
+
     def describe(self, output: InfiniteOutput = "description") -> str:
         """Its monoid, tracks and regions, and the positions that show that the quotient is infinite, with their outcomes:
         what `misere infinite --show` prints. `output` is "description", "latex" or "json". That of a whole game raises
@@ -59,6 +72,8 @@ class InfiniteQuotient(Asked):
 
     def _repr_html_(self) -> str | None:
         """What a notebook shows."""
+        if self.last_heap is None:
+            return _shown.whole_html_of(self.code, WholeGame(self._bytes.decode("ascii")))
         try:
             return _shown.infinite_html_of(self.describe())
         except (NotDescribed, NotOpen):

@@ -9,7 +9,7 @@ from collections.abc import Iterable, Sequence
 from typing import Any, Literal, get_args, overload
 
 from . import _certificate, _shown
-from ._answers import array_of
+from ._answers import Apart, Outcome, array_of
 from ._asked import Asked, Given, number_of_output
 from ._bounds import LARGEST_HEAP, LIMIT
 from ._certified import Finite
@@ -98,6 +98,20 @@ class Quotient(Asked):
         """The element of each position: a list, or an array for an array, as `outcomes`."""
         told = self._asked_of_all(self._certified.values, rows_of(positions), ctypes.c_uint32)
         return array_of(told) if is_array(positions) else list(told)
+
+    def apart(self, first: Iterable[int], second: Iterable[int]) -> Apart | None:
+        """What tells two positions apart: a third one, of as few heaps as can be, beside which just one of them is P. None if
+        the two are indistinguishable. It is computed of the table by the module; `misere apart` proves what it prints.
+        """
+        x, y = (self.table[it] for it in self.values([first, second]))
+        for element, (one, other) in enumerate(zip(x, y)):
+            if (one in self.portion) != (other in self.portion):
+                outcomes = self._outcome_of(one), self._outcome_of(other)
+                return Apart(self._said.position_of(element), outcomes)
+        return None
+
+    def _outcome_of(self, element: int) -> Outcome:
+        return "P" if element in self.portion else "N"
 
     @property
     def tame(self) -> int | None:

@@ -7,6 +7,8 @@ import re
 from collections.abc import Iterable, Sequence
 from typing import Any
 
+from ._triples import WholeGame
+
 # How many heaps stand in a row, if a period doesn't say so
 COLUMNS, MOST_COLUMNS = 12, 16
 _LISTS = re.compile(r"\\begin\{flushleft\}\n(.*?)\n\\end\{flushleft\}", re.S)
@@ -62,6 +64,14 @@ def infinite_html_of(description: str) -> str:
     family = _rows("", [f"k={downs}" for downs in range(len(outcomes["j=0"]))], outcomes)
     heaps = {line[1]: [line[3], " ".join(line[5:])] for line in lines if line[0] == "heap"}
     return f"<div>{'<br>'.join(shown)}{family}{_rows('heap', ['element', '(down, up)'], heaps)}</div>"
+
+
+def whole_html_of(code: str, game: WholeGame) -> str:
+    """The triples of a whole game's heaps in a table, and how they go on."""
+    heaps = {str(heap): list(map(str, triple)) for heap, triple in enumerate(game.listed, 1)}
+    quotient = f"<i>Q</i>(<b>{html.escape(code)}</b>) is infinite, and positions of equal triples are indistinguishable"
+    ending = f"and so on from heap {game.start}, with period {game.period} and rise {game.rise}"
+    return f"<div>{quotient}{_rows('heap', ['odd', 'weight', 'lead'], heaps)}{ending}</div>"
 
 
 def _rows(corner: str, heads: Iterable[str], rows: dict[str, list[str]]) -> str:

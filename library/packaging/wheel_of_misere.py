@@ -81,6 +81,8 @@ def files_of(version: str, tag: str) -> dict[str, bytes]:
     atlas = here.parent / "atlas"
     certificates = [*sorted(atlas.glob("*.json")), *sorted(atlas.glob("infinite/*.mqi"))]
     files.update({f"misere/atlas/{it.relative_to(atlas)}": it.read_bytes() for it in certificates})
+    games = sorted([*atlas.glob("whole/*.mqw"), *(here.parent / "certificates").glob("*.mqw")])
+    files.update({f"misere/atlas/whole/{it.name}": it.read_bytes() for it in games})
     about = f"misere-{version}.dist-info"
     metadata = METADATA.format(version=version, description=description())
     files[f"{about}/METADATA"] = metadata.encode()

@@ -27,6 +27,7 @@ PYTHONPATH=$folder "${PYTHON:-python3}" -B -c 'import misere
 assert misere.solve("0.33").outcome([2, 10**12]) == "N" and misere.__version__ != "unknown"
 assert misere.Catalogue()["Kayles"].code == "0.77"
 assert misere.InfiniteCatalogue()["0.354"].outcome([2, 4] + 7 * [5]) == "P"
+assert misere.InfiniteCatalogue()["0.26"].outcome([2, 10**15]) == "P"
 assert misere._library.library._name.endswith("/prefix/lib/libmisere.so.1")'
 
 # Rust, by pkg-config

@@ -191,6 +191,11 @@ class Faults(unittest.TestCase):
         self.assertEqual(stop and (stop.number, stop.name, stop.position), (7, "Outcome", [1, 1]))
         self.assertTrue(str(stop).endswith("fails at a position: [1, 1]"))
 
+    def test_a_position_of_many_equal_heaps_is_told_in_few_words(self) -> None:
+        rows = [([2, 3], ": [2, 3]"), ([1] * 16, f": {[1] * 16}"), ([1] * 4094 + [3], ": [4094·1, 3]")]
+        for position, end in rows:
+            self.assertTrue(str(misere.Refused(7, None, position)).endswith(end), end)
+
     def test_a_search_says_how_far_it_went(self) -> None:
         stop = raised(lambda: misere.solve("0.77", heaps=8))
         assert isinstance(stop, misere.NotFound)

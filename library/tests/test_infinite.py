@@ -51,6 +51,13 @@ def outcome_of_26(heaps: Sequence[int]) -> str:
     return "P" if nim_sum == (2 if rules else 0) else "N"
 
 
+def triple_of_26(heaps: Sequence[int]) -> misere.Triple:
+    """Those of docs/WHOLE.md: the parity of the nim sum, the weight, and the lead."""
+    weight = sum(map(weight_of, heaps))
+    leads = [reach_of(it) - (weight - weight_of(it)) + 1 for it in heaps if reach_of(it) >= 0]
+    return misere.Triple(sum((it - 1) % 2 for it in heaps) % 2, weight, max([0, *leads]))
+
+
 class Infinite(unittest.TestCase):
     of = infinite("0.354_heaps_5")
 
@@ -180,7 +187,15 @@ class Whole(unittest.TestCase):
     def test_it_is_a_value(self) -> None:
         for other in (whole("0.26"), copy.copy(self.of), pickle.loads(pickle.dumps(self.of))):
             self.assertEqual((other, other.outcome([10**15, 2])), (self.of, "P"))
-        self.assertIsNone(self.of._repr_html_())
+
+    def test_positions_have_triples(self) -> None:
+        chosen = random.Random(9)
+        for most in (8, 16, 40, 10**18):
+            for _ in range(SMALL):
+                heaps = [chosen.randint(1, most) for _ in range(chosen.randint(0, 7))]
+                self.assertEqual(self.of.value(heaps), triple_of_26(heaps), heaps)
+        self.assertEqual(self.of.value([10**15]), misere.Triple(1, 499999999999997, 499999999999994))
+        self.assertEqual(self.of.value([12]), self.of.value([3, 4, 3]))
 
 
 class Row(NamedTuple):
@@ -202,6 +217,8 @@ def refused(name: str) -> Callable[[], object]:
 
 OF = Infinite.of
 ROWS = [
+    Row("no triple by tracks", lambda: OF.value([1]), misere.NotDescribed, 16, "has no triples"),
+    Row("no heap for a triple", lambda: Whole.of.value([2, 0]), misere.NotAHeap, 10, "0 isn't, at [1]"),
     Row("no heap", lambda: OF.outcome([1, 0]), misere.NotAHeap, 10, "0 isn't, at [1]"),
     Row("no heap of many", lambda: OF.answers([[1], [2, -1]]), misere.NotAHeap, 10, "-1 isn't, at [1, 1]"),
     Row("beyond", lambda: OF.outcome([6]), misere.Beyond, 23, "speaks of heaps to 5 alone, and not of 6"),
@@ -242,6 +259,20 @@ ROWS = [
         "misere.check_infinite checks such a text",
     ),
     Row(
+        "a presentation",
+        lambda: misere.check_infinite(samples / "0.75_heaps_22.mqp"),
+        misere.Refused,
+        1,
+        "a presentation is checked by the program alone",
+    ),
+    Row(
+        "a table of one's own",
+        lambda: misere.verify(b"table 1\ncode 0.3\n"),
+        misere.Refused,
+        1,
+        "misere.certify takes a table",
+    ),
+    Row(
         "another text of a whole game",
         lambda: misere.check_infinite(Whole.of.certificate.replace(b"code 0.26", b"code 0.3")),
         misere.Refused,
@@ -274,12 +305,26 @@ class Faults(unittest.TestCase):
                 self.assertIn(row.words, str(stop))
 
 
+class Verified(unittest.TestCase):
+    def test_each_kind_is_told_by_its_first_word(self) -> None:
+        for file, kind in (("0.33.mqc", misere.Quotient), ("0.354_heaps_5.mqi", misere.InfiniteQuotient)):
+            self.assertIsInstance(misere.verify(samples / file), kind, file)
+        self.assertEqual(misere.verify(Whole.of.certificate), Whole.of)
+        self.assertEqual(misere.verify(quotient("0.33").certificate.decode()), quotient("0.33"))
+
+
 class Catalogues(unittest.TestCase):
     atlas = misere.InfiniteCatalogue()
 
     def test_the_atlas_has_each_code_of_its_files(self) -> None:
-        codes = {file.name.partition("_")[0] for file in (top / "atlas/infinite").glob("*.mqi")}
+        files = [*(top / "atlas").glob("**/*.mq[iw]"), *samples.glob("*.mq[iw]")]
+        codes = {file.stem.partition("_")[0] for file in files}
         self.assertEqual((set(self.atlas), len(self.atlas)), (codes, len(codes)))
+
+    def test_whole_games_stand_before_parts(self) -> None:
+        for code in ("0.26", "0.734", "0.f3", "4.7"):
+            self.assertEqual((self.atlas[code], self.atlas.furthest(code)), (whole(code), whole(code)), code)
+        self.assertEqual(self.atlas["0.157"].last_heap, None)
 
     def test_a_game_has_its_code_and_its_name(self) -> None:
         self.assertEqual(self.atlas["0.354"], Infinite.of)

@@ -7,7 +7,7 @@ import unittest
 from html.parser import HTMLParser
 
 import misere
-from tests import infinite, quotient, samples
+from tests import infinite, quotient, samples, whole
 
 
 class Balanced(HTMLParser):
@@ -57,6 +57,12 @@ class Shown(unittest.TestCase):
         self.assertIn("heapelement(down, up)11(0,0)22(3,0)", text)
         of.close()
         self.assertIsNone(of._repr_html_())
+
+    def test_html_of_a_whole_game_has_its_heaps(self) -> None:
+        text = "".join(Balanced(whole("0.26")._repr_html_() or "").texts)
+        self.assertTrue(text.startswith("Q(0.26) is infinite"), text)
+        self.assertIn("heapoddweightlead1000210030104110", text)
+        self.assertTrue(text.endswith("16152and so on from heap 13, with period 4 and rise 2"), text)
 
     def test_latex_is_formulas_alone(self) -> None:
         shown = quotient("0.33")._repr_latex_() or ""

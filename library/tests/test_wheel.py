@@ -31,6 +31,9 @@ class Wheel(unittest.TestCase):
         for file in (top / "library/misere").glob("*.*"):
             self.assertEqual(files[f"misere/{file.name}"], file.read_bytes())
         self.assertEqual(sum(it.endswith(".mqi") for it in files), len(list((top / "atlas/infinite").glob("*.mqi"))))
+        whole = [*(top / "atlas/whole").glob("*.mqw"), *(top / "certificates").glob("*.mqw")]
+        self.assertEqual({it for it in files if it.endswith(".mqw")}, {f"misere/atlas/whole/{it.name}" for it in whole})
+        self.assertEqual(files["misere/atlas/whole/0.26.mqw"], (top / "certificates/0.26.mqw").read_bytes())
         for name in ("octal.json", "hexadecimal.json", "parts.json", "infinite/0.354_heaps_5.mqi"):
             self.assertEqual(files[f"misere/atlas/{name}"], (top / "atlas" / name).read_bytes())
         licences = {place.rpartition("/")[2]: text for place, text in files.items() if "LICENSE-" in place}
