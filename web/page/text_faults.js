@@ -66,7 +66,6 @@ function faultOfLine(reading, [name, ...words]) {
   if (isBehindRows && before !== rows) return `rows before it: ${before}, not ${rows}`;
   const fault = faultOfWords(lines[name](numbers), words);
   if (fault) return fault;
-  if (name === "portion" && !isRising(words)) return "its numbers don't rise";
   take(reading, name, words);
   return "";
 }
@@ -96,7 +95,8 @@ function take(reading, name, words) {
   reading.count = step === reading.step ? reading.count + 1 : 1;
   reading.step = step;
   if (name === "code") reading.code = word;
-  if (words.length === 1 && isNumber(word)) numbers[name] = Number(word);
+  if (name === "heaps" || (words.length === 1 && isNumber(word))) numbers[name] = Number(word);
+  if (name === "letters") numbers[name] = words.length;
   if (name !== "words") return;
   // (the first elements are those whose keys have the element 0)
   const others = words.findIndex((key) => !key.startsWith("0:"));
@@ -108,16 +108,26 @@ function take(reading, name, words) {
  * @param {Wanted} wanted
  * @param {string[]} words
  */
-function faultOfWords({count, atLeast = 0, least = 0, below = Infinity, isRight}, words) {
-  const isAmount = count === undefined ? words.length >= atLeast : words.length === count;
-  if (!isAmount) return `words after its name: ${words.length}, not ${count ?? `${atLeast} or more`}`;
+function faultOfWords({count, atLeast = 0, atMost = Infinity, least = 0, below = Infinity, isRight, rises}, words) {
+  const [fewest, most] = [count ?? atLeast, count ?? atMost];
+  if (words.length < fewest || words.length > most)
+    return `words after its name: ${words.length}, not ${amountTold(fewest, most)}`;
   for (const [at, word] of words.entries()) {
-    if (isRight ? isRight(word, at) : isNumber(word) && Number(word) >= least && Number(word) < below) continue;
+    if (isRight ? isRight(word, at, words) : isNumber(word) && Number(word) >= least && Number(word) < below) continue;
     if (isRight) return `“${word}”, which it can't have`;
     if (/^0\d+$/.test(word)) return `${word}, which begins with 0`;
     return isNumber(word) ? `${word}, which isn't ${least} to ${below - 1}` : `“${word}”, which is no number`;
   }
-  return "";
+  return rises && !isRising(words) ? "its numbers don't rise" : "";
+}
+
+/**
+ * @param {number} fewest
+ * @param {number} most
+ */
+function amountTold(fewest, most) {
+  if (fewest === most) return String(fewest);
+  return most === Infinity ? `${fewest} or more` : `${fewest} to ${most}`;
 }
 
 /** @param {string[]} words */

@@ -2,5 +2,6 @@
 
 /** @param {number} milliseconds */
 export function timeTold(milliseconds) {
-  return milliseconds < 1 ? "less than 1 ms" : `${milliseconds.toFixed(0)} ms`;
+  if (milliseconds < 1) return "less than 1 ms";
+  return milliseconds < 1000 ? `${milliseconds.toFixed(0)}\u00a0ms` : `${(milliseconds / 1000).toFixed(1)}\u00a0s`;
 }

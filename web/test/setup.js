@@ -43,7 +43,7 @@ export const samples = ["certificates", "certificates/refused"].flatMap((it) => 
 
 /** The bytes of a sample. */
 export const sample = (/** @type {string} */ name) =>
-    readFileSync(path.join(root, "certificates", /\.mq[iw]$/.test(name) ? name : `${name}.mqc`));
+    readFileSync(path.join(root, "certificates", /\.mq[ipw]$/.test(name) ? name : `${name}.mqc`));
 
 /**
  * All entries of a catalogue of the atlas.

@@ -3,6 +3,7 @@ import assert from "node:assert/strict";
 import test from "node:test";
 import {gzipSync} from "node:zlib";
 
+import {isPresented, presentedOf} from "../page/presented/fields.js";
 import {Failure} from "../page/prover.js";
 import {lineTold} from "../page/refusals.js";
 import {faultOfText} from "../page/text_faults.js";
@@ -120,4 +121,35 @@ test("behind the verdict stands the line, or which command may name it", () => {
   assert.match(lineTold(failure, encoder.encode(good)), /misere explain FILE/);
   for (const other of [new Failure("refused", "2 Law", 2), new Failure("failed", "it ended"), new Error("x")])
     assert.equal(lineTold(other, bytes), "");
+});
+
+/** @type {[string, string, string][]} What is changed in the presentation of 0.75 to heap 22, and the fault. */
+const PRESENTED = [
+  ["mqp 1", "mqp 2", "line 1: 2, which isn't 1 to 1"],
+  ["heaps 22", "heaps 22 period", "line 3: “period”, which it can't have"],
+  ["heaps 22", "heaps 22 period 23", "line 3: “23”, which it can't have"],
+  ["heaps 22", "heaps 23", "line 5: words after its name: 22, not 23"],
+  ["letters 1 2 5", "letters 1 2 0", "line 4: 0, which isn't 1 to 16384"],
+  ["letters 1 2 5", "letters 1 2", "line 10: words after its name: 3, not 2"],
+  ["words a b", "words a ba", "line 5: “ba”, which it can't have"],
+  ["words a b", "words a b^1", "line 5: “b^1”, which it can't have"],
+  ["b^3 b", "b^1001 b", "line 7: “b^1001”, which it can't have"],
+  ["b^3 b", "b^3 b b", "line 7: words after its name: 3, not 2"],
+  ["relation b^3", "relations b^3", "line 7: its first word isn't relation or cycle"],
+  ["cycle 2:1", "cycle 2:0", "line 10: “2:0”, which it can't have"],
+  ["portion a", "portion A", "line 11: the byte 65, which no text has"],
+  ["end\n", "", "the last line isn't \"end\""],
+];
+
+test("so it is of presentations, which are told as they stand there", () => {
+  const bytes = sample("0.75_heaps_22.mqp"), text = bytes.toString();
+  assert.equal(faultOfText(text), "");
+  for (const [was, is, fault] of PRESENTED) assert.equal(faultOfText(text.replace(was, is)), fault);
+  assert.deepEqual([isPresented(bytes), isPresented(encoder.encode(good))], [true, false]);
+  const {code, heaps, period, letters, relations, portion} = presentedOf(text);
+  assert.deepEqual([code, heaps, period, letters.join("")], ["0.75", 22, 0, "abc"]);
+  assert.deepEqual([relations, portion], [["a^2=1", "b^3=b", "bc=ab", "c^2=b^2"], ["a", "b^2"]]);
+  const whole =
+      "mqp 1\ncode 0.001\nheaps 4 period 1\nletters 3\nwords 1 1 a 1\nrelation a^2 1\ncycle 2:1\nportion a\nend\n";
+  assert.deepEqual([faultOfText(whole), presentedOf(whole).period], ["", 1]);
 });

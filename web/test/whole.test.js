@@ -12,6 +12,7 @@ import {outcomeByPlays} from "../page/plays.js";
 import {faultOfText} from "../page/text_faults.js";
 import {kindOfText} from "../page/text_kinds.js";
 import {isSaidP, isWhole, tripleOf, wholeName, wholeOf, wholeVerdict} from "../page/whole/fields.js";
+import {thirdOf} from "../page/whole/third.js";
 
 import {root, wholeTexts} from "./setup.js";
 
@@ -40,6 +41,17 @@ const HEAPS_OF_26 = [
   [1, 0n, 0n], [4, 1n, 0n], [6, 0n, 0n], [9, 2n, 1n], [10, 2n, 1n], [12, 3n, 0n], [14, 4n, 1n], [15, 5n, 4n],
   [1001, 498n, 497n], [1002, 498n, 495n]
 ];
+
+/**
+ * Third positions of 0.26, worked out by these weights and leads. (9 and 10 weigh 2 and have lead 1, so either rules
+ * beside less than 1. 9 is even and 10 isn't: 9 + 9 is even, of weight 4, and no heap rules, so it is P.)
+ * @type {[bigint[], bigint[], bigint[] | ""][]}
+ */
+const THIRD = [[[3n, 9n], [11n], []], [[9n], [10n], [9n]], [[1n], [5n], ""]];
+
+test("a third position beside which two of 0.26 differ is the first one of those that are tried", () => {
+  for (const [one, other, third] of THIRD) assert.deepEqual(thirdOf(wholeOf(text), one, other), third);
+});
 
 test("the triples of 0.26 are those of its proof by hand", () => {
   const whole = wholeOf(text);

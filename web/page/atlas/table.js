@@ -57,13 +57,14 @@ function linkOf(entry, atlas) {
 }
 
 /**
- * A code, the name of its game, and where the list is narrow whether it has no finite quotient.
+ * A code, the name of its game, and where the list is narrow whether it has no finite quotient, or is normal play
+ * beyond a heap.
  * @param {Entry} entry
  * @param {Atlas} atlas
  */
 function codeCell(entry, atlas) {
   const name = GAME_NAMES.get(entry.code);
-  const sign = endlessOf(entry, atlas, "∞");
+  const sign = endlessOf(entry, atlas, "∞") || normalOf(entry, "⊕");
   return [
     linkOf(entry, atlas), sign && make("span", {class: "narrow"}, " ", sign),
     name && make("span", {class: "soft known"}, ` ${name}`)
@@ -99,10 +100,20 @@ function endlessOf({code, infinite, whole}, atlas, words) {
  * @param {Atlas} atlas
  */
 function wholeOf(entry, atlas) {
-  const {code, infinite, whole, tail} = entry;
+  const {infinite, whole, tail} = entry;
   if (infinite !== null) return endlessOf(entry, atlas, `infinite to heap ${infinite}`);
   if (whole) return endlessOf(entry, atlas, "infinite, solved");
-  return tail !== null && make("a", {href: gameAddress(code)}, `normal beyond ${tail}`);
+  return normalOf(entry, `normal beyond ${tail}`);
+}
+
+/**
+ * A link to a game that is normal play beyond a heap.
+ * @param {Entry} entry
+ * @param {string} words
+ */
+function normalOf({code, tail}, words) {
+  const title = `normal beyond ${tail}: misère play is normal play with a larger heap`;
+  return tail !== null && make("a", {href: gameAddress(code), title, "aria-label": title}, words);
 }
 
 /** @param {unknown[]} all */
@@ -122,7 +133,9 @@ export function headOf(chosen, choose) {
     const sort = isSorted ? (chosen.down ? "descending" : "ascending") : "none";
     const onclick = () => choose({by, down: isSorted && !chosen.down});
     const button = make("button", {type: "button", onclick}, name);
-    return make("th", {scope: "col", class: kind, "data-by": by, "aria-sort": sort}, button);
+    // (on paper no button is repeated on a further sheet)
+    const printed = make("span", {class: "printed", "aria-hidden": "true"}, name);
+    return make("th", {scope: "col", class: kind, "data-by": by, "aria-sort": sort}, button, printed);
   });
 }
 

@@ -22,7 +22,7 @@ import {codeOfName} from "../codes.js";
  * @returns {Step}
  */
 function whole(heaps, order) {
-  return {name: `whole, by ${heaps} heaps, at most ${order} elements`, search: {aim: "whole", heaps, order}};
+  return {name: `full, by ${heaps} heaps, at most ${order} elements`, search: {aim: "whole", heaps, order}};
 }
 
 /**
@@ -55,11 +55,11 @@ function doubling(least, last) {
 /** @type {Record<string, Aim>} */
 export const AIMS = {
   all: {
-    name: "whole, then deep, then partial",
+    name: "full, then deep, then partial",
     steps: () => [whole(HEAPS, ELEMENTS), whole(MOST_HEAPS, MOST_BY_FEW), furthest(16), furthest(64)]
   },
-  whole: {name: "whole", steps: () => [whole(HEAPS, ELEMENTS)]},
-  deep: {name: "whole, deep", steps: () => [whole(MOST_HEAPS, MOST_BY_FEW)]},
+  whole: {name: "full", steps: () => [whole(HEAPS, ELEMENTS)]},
+  deep: {name: "full, deep", steps: () => [whole(MOST_HEAPS, MOST_BY_FEW)]},
   partial: {
     name: "partial, to a heap",
     asks: "Last heap",

@@ -66,7 +66,7 @@ function keyOf(certificate) {
         make("span", {class: "mark period"}, "Shaded:"), ` from heap ${start} on this repeats with `,
         explained("Period", `period ${period}`), "."
       ] :
-      [`Of larger heaps than ${last} nothing is told.`];
+      [`Of larger heaps than ${last} the certificate says nothing.`];
   return make(
       "p", {class: "key"}, make("span", {class: "mark p"}, "Blue:"), " in 𝒫, lost for the player to move. ", reach);
 }

@@ -1,5 +1,6 @@
 // Whether a certificate of an infinite quotient is accepted here, in a sentence.
 
+import {countSeconds} from "../counting.js";
 import {make} from "../dom.js";
 import {Oracle} from "../oracle.js";
 import {isNo, told} from "../refusals.js";
@@ -13,6 +14,7 @@ import {timeTold} from "../times.js";
  */
 export function judged({collection, finder}, name) {
   const said = make("span", {role: "status", id: "judged"}, "Being checked here …");
+  countSeconds(said);
   const judge = async () => {
     const text = await collection.find(name);
     const oracle = new Oracle(finder, new TextEncoder().encode(text ?? ""));

@@ -2,11 +2,14 @@
 
 import {playAddress} from "../address.js";
 import {fieldsOf, lastHeap, verdictOf} from "../certificate.js";
+import {countSeconds} from "../counting.js";
 import {describedOf} from "../description.js";
 import {fill, make} from "../dom.js";
 import {isInfinite} from "../infinite/fields.js";
 import {presentInfinite} from "../infinite/present.js";
 import {wordsOf} from "../monoid.js";
+import {isPresented} from "../presented/fields.js";
+import {presentPresented} from "../presented/present.js";
 import {Failure} from "../prover.js";
 import {alertOf, isNo, lineTold, toldOfCertificate} from "../refusals.js";
 import {timeTold} from "../times.js";
@@ -48,9 +51,11 @@ const NOT_DESCRIBED = 16;
 export async function present(page, root, bytes, isGame = false) {
   if (isInfinite(bytes)) return presentInfinite(page, root, bytes, isGame);
   if (isWhole(bytes)) return presentWhole(page, root, bytes, isGame);
+  if (isPresented(bytes)) return presentPresented(page, root, bytes);
   const verdict = make("p", {class: "verdict", id: "verdict", role: "status"}, "Checking …");
   const kind = kindNote(bytes);
   fill(root, kind, verdict);
+  countSeconds(verdict);
   try {
     const {time} = await page.prover.ask("check", bytes);
     if (verdict.parentNode !== root) return;
@@ -77,6 +82,7 @@ export async function present(page, root, bytes, isGame = false) {
 async function presentGame(page, root, bytes, certificate, verdict, isGame) {
   const describing = make("p", {class: "soft", id: "describing", role: "status"}, "Describing …");
   root.append(describing);
+  countSeconds(describing);
   try {
     const game = await gameOf(page, bytes, certificate);
     if (verdict.parentNode === root) root.append(...sectionsOf(page, game, isGame));

@@ -1,6 +1,7 @@
 // A certificate of an infinite quotient is checked, and where the checker accepts it, all that is told of it is shown.
 
 import {playAddress} from "../address.js";
+import {countSeconds} from "../counting.js";
 import {fill, make} from "../dom.js";
 import {askForm, outcomeOf} from "../game/ask.js";
 import {infiniteSection} from "../game/certificate_section.js";
@@ -36,6 +37,7 @@ export async function presentInfinite(page, root, bytes, isGame = false) {
   const verdict = make("p", {class: "verdict", id: "verdict", role: "status"}, "Checking …");
   const kind = kindNote(bytes);
   fill(root, kind, verdict);
+  countSeconds(verdict);
   try {
     const oracle = new Oracle(page.prover, bytes);
     if (!(await oracle.isAble())) return showUnchecked(root, verdict, bytes);

@@ -22,7 +22,8 @@ const PROVED = [
       "outcome of a position, its element and its first winning move are true.",
   "What the finder hands out is accepted by the checker. If it finds nothing, nothing is proved.",
   "For each certificate of a finite quotient in the atlas Coq, another prover, has proved the same without axioms. " +
-      "For some of the others it has proved that the quotient is infinite. The page doesn’t run it.",
+      "So it has for each text of a whole game, for most games that are normal play beyond a heap, and for most " +
+      "certificates with tracks. The page doesn’t run it.",
 ];
 
 const TRUSTED = [

@@ -53,7 +53,8 @@ export async function atlasView(page, root, word) {
     saving("save-csv", "Save as CSV", () => save(csvOf(listed()), "misere.csv")),
     saving("save-json", "Save as JSON", () => save(jsonOf(listed()), "misere.json"))
   ];
-  const key = make("p", {class: "key narrow"}, "∞: no finite quotient, by a certificate.");
+  const key =
+      make("p", {class: "key narrow"}, "∞: no finite quotient, by a certificate. ⊕: normal play beyond a heap.");
   const table = make("table", {class: "list"}, make("thead", {}, head), body);
   fill(
       root, make("h1", {}, "The atlas of small games"), make("p", {}, introductionOf(atlas)), checkingOfAll(page),

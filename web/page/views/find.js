@@ -1,10 +1,12 @@
 // A search for the quotient of a code.
 
 import {gameAddress} from "../address.js";
+import {WHOLE} from "../atlas.js";
 import {codeOfName, isCode} from "../codes.js";
 import {choice, fill, labelled, make} from "../dom.js";
 import {AIMS, soughtOf, soughtWord} from "../find/plan.js";
 import {search} from "../find/search.js";
+import {isKnownFurther} from "../game/known.js";
 import {present} from "../game/present.js";
 
 /** @typedef {import("../main.js").Page} Page */
@@ -50,15 +52,19 @@ export async function findView(page, root, word) {
 }
 
 /**
- * What is told of a code of which no full quotient can be found.
+ * What is told of a code of which no full quotient can be found, or more is known than one.
  * @param {Page} page
  * @param {string} code
  */
 function noneOf({atlas}, code) {
-  const [part] = atlas.infinite.get(code) ?? [];
-  if (!part) return [];
-  const link = make("a", {href: gameAddress(`${code}/${part}`)}, "A certificate of the atlas");
-  return [link, ` says that ${code} has no finite quotient, so only parts can be found.`];
+  const [part] = atlas.whole.has(code) ? [WHOLE] : (atlas.infinite.get(code) ?? []);
+  if (part) {
+    const link = make("a", {href: gameAddress(`${code}/${part}`)}, "A certificate of the atlas");
+    const more = part === WHOLE ? " It has the outcome of each position." : "";
+    return [link, ` says that ${code} has no finite quotient, so only parts can be found.${more}`];
+  }
+  if (!isKnownFurther(atlas, code)) return [];
+  return [make("a", {href: gameAddress(code)}, `More is known of ${code}`), " than a search here finds."];
 }
 
 /**

@@ -11,12 +11,14 @@ import {Oracle} from "../oracle.js";
 import {outcomesOfPairs} from "../pictures/outcomes.js";
 import {LARGEST_HEAP_PLAYED, MOST_HEAPS_PLAYED} from "../play/bounds.js";
 import {USUAL_HEAPS} from "../play/reading.js";
+import {sumOf} from "../positions.js";
 import {isNo, lineTold, toldOfCertificate} from "../refusals.js";
 import {timeTold} from "../times.js";
 
 import {tripleOf, wholeName, wholeOf, wholeVerdict} from "./fields.js";
 import {tripleSection} from "./table.js";
 import {QUOTIENT, wholeTheorem} from "./theorem.js";
+import {thirdOf} from "./third.js";
 
 /** @typedef {import("../main.js").Page} Page */
 /** @typedef {import("./fields.js").Whole} Whole */
@@ -61,7 +63,7 @@ function sectionsOf(page, oracle, whole, isGame) {
     tripleSection(whole),
     make("section", {}, make("h2", {}, "The quotient"), make("p", {}, QUOTIENT)),
     askForm("Heaps, of any size", "2 3 1000000000000", (heaps) => saidOf(oracle, whole, heaps)),
-    compareForm(["3 9", "11"], async (one, other) => comparedOf(whole, one, other)),
+    compareForm(["3 9", "11"], (one, other) => comparedOf(oracle, whole, one, other)),
     make("section", {}, make("h2", {}, "Pictures"), make("div", {class: "pictures"}, pairs)),
     wholeSection(whole),
   ];
@@ -92,12 +94,29 @@ function tripleTold({odd, weight, lead}) {
 }
 
 /**
- * Whether two positions are indistinguishable, which is so exactly if their triples are the same.
+ * Whether two positions are indistinguishable, which is so exactly if their triples are the same; else also a third one
+ * beside which their outcomes differ, if a small one serves. (Outcomes are the module's.)
+ * @param {Oracle} oracle
  * @param {Whole} whole
  * @param {bigint[]} one
  * @param {bigint[]} other
  */
-function comparedOf(whole, one, other) {
+async function comparedOf(oracle, whole, one, other) {
   const [x, y] = [one, other].map((heaps) => tripleTold(tripleOf(whole, heaps)));
-  return [x === y ? `Indistinguishable: both are ${x}.` : `Distinguishable: one is ${x}; the other is ${y}.`];
+  if (x === y) return [`Indistinguishable: both are ${x}.`];
+  const third = thirdOf(whole, one, other);
+  return [`Distinguishable${third && (await besideTold(oracle, one, other, third))}. One is ${x}; the other is ${y}.`];
+}
+
+/**
+ * @param {Oracle} oracle
+ * @param {bigint[]} one
+ * @param {bigint[]} other
+ * @param {bigint[]} third
+ */
+async function besideTold(oracle, one, other, third) {
+  const outcomes = await oracle.outcomes([[...one, ...third], [...other, ...third]]);
+  const [first, second] = [...outcomes].map((it) => (it === 0 ? "P" : "N"));
+  if (first === second) throw new Error("its third position has no different outcomes");
+  return `: ${third.length ? `beside ${sumOf(third)} ` : ""}one is ${first} and the other ${second}`;
 }

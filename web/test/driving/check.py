@@ -69,12 +69,24 @@ def others(it, program, steps):
             said = judged(it, lambda: it.one("#file").send_keys(str(file)))
             kind = it.text(".told > :first-child")
             steps.expect(f"a text for which {words} is said", words in kind and said.startswith("no 1 Text"), kind)
+        presented(it, program, steps, file)
         file.write_bytes(good.replace(b"order 6", b"order 6 6"))
         said = judged(it, lambda: it.one("#file").send_keys(str(file)))
         steps.expect("the line at fault is named", "line 3: words after its name: 2, not 1" in said, said)
         file.write_bytes(good.replace(b"portion 1 4", b"portion 1 5"))
         said = judged(it, lambda: it.one("#file").send_keys(str(file)))
         steps.expect("a certificate is told by its verdict alone", not it.all("#kind"), said)
+
+
+def presented(it, program, steps, file):
+    """A presentation, which the module doesn't judge."""
+    text = program.certificate("0.75_heaps_22.mqp").read_bytes()
+    for words, these in {"misere verify FILE": text, "line 10": text.replace(b"letters 1 2 5", b"letters 1 2")}.items():
+        file.write_bytes(these)
+        said = judged(it, lambda: it.one("#file").send_keys(str(file)), ["Not checked here"])
+        steps.expect(f"a presentation for which {words} is said", words in f"{it.text('#kind')} {said}", said)
+        claimed = "of heap 5" in it.text("#claims")
+        steps.expect("it claims what it says if it says anything", claimed == (these == text), it.text("#claims"))
 
 
 def large(it, program, steps):

@@ -35,6 +35,11 @@ def drive(it, program, steps):
     steps.expect("what was reached before it is told too", len(told) > 2 and all("0.07 order" in line for line in told))
     it.wait(lambda: it.text("h1") == "Find a quotient")
     steps.expect("a search has an address", it.run("return location.hash") == "#find=0.07:furthest:64")
+    known = {"0.26": "It has the outcome of each position.", "0.56": "More is known of 0.56", "0.33": ""}
+    for code, words in known.items():
+        sought(it, code, "partial", 4)
+        said = it.text("#none")
+        steps.expect(f"what else is known of {code}", words in said and bool(words) == bool(said), said)
     stops(it, steps)
     told = sought(it, "0.8x", "whole")
     steps.expect("what is no code is told", told[0].startswith("A code is such as"), told)

@@ -74,6 +74,10 @@ def lists(it, steps):
     wide = it.run("return document.querySelector('.list').scrollWidth")
     wanted = [["0.07", "∞", "Dawson’s", "Kayles"], ["0.77", "Kayles"]]
     steps.expect("a phone's list tells names, and what is infinite", seen == wanted and wide <= 360, f"{seen}, {wide}")
+    shown(it, "atlas=code=0.56")
+    it.said(".list tbody tr td", "⊕")
+    seen = it.seen(".list tbody td:first-child")[0].split()
+    steps.expect("and what is normal play beyond a heap", seen == ["0.56", "⊕"], seen)
 
 
 def prints(it, steps):
@@ -90,6 +94,9 @@ def prints(it, steps):
         shown(it, view)
         seen = it.run(CONTROLS)
         steps.expect(f"{view} has no buttons and no fields on paper", not seen, seen)
+    shown(it, "atlas")
+    heads = it.seen(".list thead th")
+    steps.expect("each column has its heading there", heads[:3] == ["Code", "Order", "Portion"] and all(heads), heads)
     it.picture("print-check")
     it.emulate()
 

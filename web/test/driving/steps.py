@@ -62,7 +62,7 @@ class Program:
         return self.module("script").load(self.root / "scripts" / name, name)
 
     def certificate(self, name):
-        return self.root / "certificates" / (name if name.endswith((".mqi", ".mqw")) else f"{name}.mqc")
+        return self.root / "certificates" / (name if name.endswith((".mqi", ".mqw", ".mqp")) else f"{name}.mqc")
 
     def samples(self):
         folder = self.root / "certificates"

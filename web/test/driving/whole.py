@@ -26,11 +26,23 @@ def drive(it, program, steps):
     for position, is_lost in POSITIONS.items():
         told = answered(it, position)
         steps.expect(f"who wins {position}", told.startswith("P: lost" if is_lost else "N: "), told)
+    apart(it, steps)
     checks(it, program, steps)
     it.go("#play=0.26/whole:3,9")
     it.wait(lambda: len(it.all(".heap")) == 2)
     said = to_its_end(it, by_hints=True)
     steps.expect("it is played to its end", "won" in said, said)
+
+
+def apart(it, steps):
+    """Two positions with other numbers, and the third one beside which one of them is lost."""
+    told = it.said("#compared", "istinguishable")
+    steps.expect("two positions are compared", told.startswith("Distinguishable: one is N and the other P. "), told)
+    for field, heaps in {"#one": "9", "#other": "10"}.items():
+        it.write(field, heaps)
+    it.one("#other").submit()
+    told = it.said("#compared", "beside")
+    steps.expect("and beside a third one", "beside 9 one is P and the other N. " in told, told)
 
 
 def tails(it, steps):
