@@ -28,6 +28,8 @@ SECONDS = 60
 BATCH = 25  # so many texts to a run of the program of coq/
 LARGEST = 100  # the order above which a text isn't changed: with tracks each one takes seconds
 NUMBERED = re.compile(rb"(?m)^(phi|portion|words|row|apart|track|base|up|down|start|period|rise|odd|weights|leads) .*$")
+# Of a text with tracks a position at which the rule fails is looked for, by each program in its own way
+FOUND = {"no 7 Outcome", "no 32 Idle", "no 33 Undecided"}
 KINDS = ("without tracks", "with tracks", "of whole games")
 
 
@@ -129,9 +131,13 @@ class Oracle:
             return [(as_told(line_of([self.program, command, it]), others[it]), others[it], files[it]) for it in files]
 
 
+def is_given_up(said: str, other: str) -> bool:
+    return "no end" in (said, other) or said == "no 8 Limit"
+
+
 def as_told(said: str, other: str) -> str:
-    """What misere says, without the fault where the other program tells none: of a text with tracks."""
-    return "no" if other == "no" and said.startswith("no ") else said
+    """What misere says, without the position at which a text of a whole game is wrong: the other program seeks none."""
+    return other if (said, other) == ("no 7 Outcome", "no 33 Undecided") else said
 
 
 def answer_of(line: str) -> str:
@@ -146,7 +152,8 @@ def oracle(program: str) -> Oracle:
 def look_at(oracle: Oracle, seed: int, count: int, kind: str, jobs: int | None) -> int:
     """Looks at so many changed texts and tells what was said of them. How many differ.
 
-    A check that is given up at its limit isn't compared, nor one that has no end in a minute: these are counted.
+    A check that is given up at its limit isn't compared, nor one that has no end in a minute: these are counted. So
+    are those of which the two find different faults of FOUND, each of which may be there.
     """
     answers: Counter[str] = Counter()
     wrong = 0
@@ -155,9 +162,13 @@ def look_at(oracle: Oracle, seed: int, count: int, kind: str, jobs: int | None) 
         batches = [range(at, min(at + BATCH, end)) for at in range(seed, end, BATCH)]
         looks = pool.map(Oracle.look, repeat(oracle), batches, repeat(kind))
         for said, other, at in chain.from_iterable(looks):
-            is_given_up = "no end" in (said, other) or said == "no 8 Limit"
-            answers["not compared" if is_given_up else answer_of(said)] += 1
-            if said != other and not is_given_up:
+            if is_given_up(said, other):
+                answers["not compared"] += 1
+            elif said == other:
+                answers[answer_of(said)] += 1
+            elif {said, other} <= FOUND:
+                answers[f"{said} ({other.split()[1]} by coq/)"] += 1
+            else:
                 wrong += 1
                 print(f"seed {at}: {said!r}, and by coq/ {other!r}", flush=True)
     told = ", ".join(f"{number} {answer}" for answer, number in sorted(answers.items()))

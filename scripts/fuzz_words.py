@@ -112,6 +112,14 @@ def tries(commands: Commands, chance: random.Random, text: bytes) -> Iterator[tu
     yield [b"infinite", b"x.mqi", word(POSITIONS, chance)], b""
     yield [b"infinite", b"x.mqi", b"-"], lines_of(POSITIONS, chance)
     yield [b"infinite", b"x.mqi", b"--show", *chance.sample([b"--latex", b"--json"], chance.randrange(3))], b""
+    yield [b"verify", word([b"x.mqc", b"x.mqi", b"x.mqw", b"-"], chance)], text
+    yield [b"verify", b"x.mqp", b"--limit", word(LIMITS, chance)], b""
+    yield [b"tail", b"x.mqc"], b""
+    given = [b"x.mqc", b"x.mqw"]
+    yield [b"value", word(given, chance), word(POSITIONS, chance)], b""
+    yield [b"apart", word(given, chance), word(POSITIONS, chance), word(POSITIONS, chance)], b""
+    yield [b"play", word(given, chance), word(POSITIONS, chance), *chance.sample([b"--all"], chance.randrange(2))], b""
+    yield [word([b"show", b"describe", b"infinite", b"explain"], chance), b"x.mqw"], b""
     yield [b"present", word(PRESENTATIONS, chance)], b""
     yield [b"solve", word(CODES, chance), b"--heaps", b"12", b"--rounds", b"2"], b""
     yield [b"solve", *(word(CODES, chance) for _ in range(3)), b"--heaps", b"12", b"--rounds", b"2"], b""
