@@ -7,14 +7,16 @@ import fcntl
 import os
 import resource
 import signal
+import sys
 import threading
 import time
-from collections.abc import Sequence
+from collections.abc import Callable, Sequence
 from dataclasses import dataclass
 from typing import BinaryIO
 
 # Begins a run in a folder, which waits until this shell has ended
 SHELL = ("/bin/sh", "-c", 'cd -- "$1" && shift && { read go <&3; exec "$@" 3<&- <&4 4<&-; } &', "sh")
+ERASED = "\r\x1b[K"  # what takes away the line of a terminal
 SET_CHILD_SUBREAPER = 36  # of prctl: a process whose parent has ended becomes a child of this one
 
 
@@ -42,6 +44,29 @@ def given_file(text: bytes) -> int:
         file.write(text)
         file.seek(0)
         return fcntl.fcntl(file, fcntl.F_DUPFD_CLOEXEC, 10)
+
+
+class Progress:
+    """How far long work is, on standard error: on a terminal a line that is written over and goes away at the end, and
+    elsewhere a line each so many seconds, or none."""
+
+    def __init__(self, name: str, every: float | None) -> None:
+        # (where the output goes to a terminal too, a line would be written over it)
+        self.is_terminal = sys.stderr.isatty() and not sys.stdout.isatty()
+        self.name, self.every, self.told = name, 1.0 if self.is_terminal else every, time.monotonic()
+
+    def tell(self, text: Callable[[], str]) -> None:
+        """Says it, if it is time."""
+        if self.every is not None and time.monotonic() - self.told >= self.every:
+            self.told = time.monotonic()
+            self.write(text(), "" if self.is_terminal else "\n")
+
+    def end(self, text: str) -> None:
+        """Says how it ended, in a line that stays."""
+        self.write(text, "\n")
+
+    def write(self, text: str, end: str) -> None:
+        print(f"{ERASED if self.is_terminal else ''}{self.name}: {text}", end=end, file=sys.stderr, flush=True)
 
 
 class Stopped(Exception):

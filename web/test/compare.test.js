@@ -2,10 +2,9 @@
 import assert from "node:assert/strict";
 import test from "node:test";
 
-import {Refused} from "../calls.js";
-
 import {newMisere} from "./module.js";
 import {atlas, fileOf, numbersFrom, printed, sample, samples, told} from "./setup.js";
+import {linesOfRefusal, verdictPrinted} from "./verdicts.js";
 
 const misere = newMisere();
 const CHANGED = 1500;
@@ -28,20 +27,11 @@ function verdictOf(bytes) {
   try {
     misere.check(bytes);
   } catch (stop) {
-    if (!(stop instanceof Refused)) throw stop;
-    const [number, name] = stop.message.split(" ");
-    const place = stop.heaps ? [`rule fails at ${spelled(stop.heaps)}`] : [];
-    return [`no ${number} ${name}`, ...place];
+    return linesOfRefusal(stop);
   }
   const {code, order, start, period} = fieldsOf(bytes);
   const end = period === "0" ? `heaps ${Number(start) - 1}` : `start ${start} period ${period}`;
   return [`yes ${code} order ${order} ${end}`];
-}
-
-/** @param {Uint8Array} bytes */
-function verdictPrinted(bytes) {
-  const lines = printed("check", fileOf(bytes)).split("\n");
-  return lines.filter((line) => line && !line.startsWith("outcome "));
 }
 
 /** @param {(number | bigint)[]} heaps */
@@ -68,7 +58,7 @@ function positionsOf(random, last) {
 
 test("samples: verdict, number and position", async (t) => {
   for (const {name, bytes} of samples) {
-    await t.test(name, () => assert.deepEqual(verdictOf(bytes), verdictPrinted(bytes)));
+    await t.test(name, () => assert.deepEqual(verdictOf(bytes), verdictPrinted("check", bytes)));
   }
 });
 
@@ -132,7 +122,7 @@ test("changed certificates: verdict, number and position", (t) => {
   const counts = {};
   for (let row = 0; row < CHANGED; row++) {
     const bytes = changed(random, all[random(all.length)]), mine = verdictOf(bytes);
-    assert.deepEqual(mine, verdictPrinted(bytes), `row ${row}: ${new TextDecoder().decode(bytes)}`);
+    assert.deepEqual(mine, verdictPrinted("check", bytes), `row ${row}: ${new TextDecoder().decode(bytes)}`);
     const kind = mine[0].startsWith("no") ? mine[0] : "yes";
     counts[kind] = (counts[kind] ?? 0) + 1;
   }
@@ -157,7 +147,7 @@ function wrongAt(ones) {
 test("a rule that fails at more heaps than there is room for at first", () => {
   for (const ones of [63, 65, 99]) {
     const lines = ["no 7 Outcome", `rule fails at ${"1 ".repeat(ones).trim()}`];
-    assert.deepEqual([verdictOf(wrongAt(ones)), verdictPrinted(wrongAt(ones))], [lines, lines]);
+    assert.deepEqual([verdictOf(wrongAt(ones)), verdictPrinted("check", wrongAt(ones))], [lines, lines]);
   }
 });
 

@@ -1,4 +1,5 @@
 /** What the tests share: the program, the samples and the atlas. Those of the module take it from module.js. */
+import assert from "node:assert/strict";
 import {spawnSync} from "node:child_process";
 import {mkdtempSync, readdirSync, readFileSync, rmSync, writeFileSync} from "node:fs";
 import {tmpdir} from "node:os";
@@ -7,6 +8,7 @@ import process from "node:process";
 import {fileURLToPath} from "node:url";
 
 import {Failed, Refused} from "../calls.js";
+import {faultOfText} from "../page/text_faults.js";
 
 export const root = fileURLToPath(new URL("../..", import.meta.url));
 export const program = process.env.MISERE ?? path.join(root, "crates/misere/out/misere");
@@ -76,6 +78,18 @@ export const wholeTexts = ["atlas/whole", "certificates"].flatMap((place) => {
   const textOf = (/** @type {string} */ name) => readFileSync(path.join(root, place, name), "utf8");
   return names.map((name) => /** @type {[string, string]} */ ([name.slice(0, -4), textOf(name)]));
 });
+
+/**
+ * Changes in a text, and the fault that the page finds in each text that comes of one.
+ * @param {string} text
+ * @param {[string, string, string][]} changes
+ */
+export function faultsAre(text, changes) {
+  for (const [was, is, fault] of changes) {
+    assert.ok(text.includes(was), was);
+    assert.equal(faultOfText(text.replace(was, is)), fault);
+  }
+}
 
 /**
  * Numbers that look random and are the same in each run (xorshift, of 32 bits).

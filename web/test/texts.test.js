@@ -9,7 +9,7 @@ import {lineTold} from "../page/refusals.js";
 import {faultOfText} from "../page/text_faults.js";
 import {kindOfText} from "../page/text_kinds.js";
 
-import {atlas, infinite, parts, refusedInfinite, sample, samples} from "./setup.js";
+import {atlas, faultsAre, infinite, parts, refusedInfinite, sample, samples} from "./setup.js";
 
 const encoder = new TextEncoder();
 const good = sample("0.33").toString(), lines = good.split("\n");
@@ -109,7 +109,7 @@ const WITH_TRACKS = [
 
 test("so it is of certificates with tracks", () => {
   const text = sample("0.354_heaps_5.mqi").toString();
-  for (const [was, is, fault] of WITH_TRACKS) assert.equal(faultOfText(text.replace(was, is)), fault);
+  faultsAre(text, WITH_TRACKS);
   const without = (/** @type {number} */ gone) => text.split("\n").filter((_, at) => at !== gone).join("\n");
   const rows = [...text.matchAll(/^row /gm)].length;
   assert.equal(faultOfText(without(7)), `line 11: rows before it: ${rows - 1}, not ${rows}`);
@@ -144,7 +144,7 @@ const PRESENTED = [
 test("so it is of presentations, which are told as they stand there", () => {
   const bytes = sample("0.75_heaps_22.mqp"), text = bytes.toString();
   assert.equal(faultOfText(text), "");
-  for (const [was, is, fault] of PRESENTED) assert.equal(faultOfText(text.replace(was, is)), fault);
+  faultsAre(text, PRESENTED);
   assert.deepEqual([isPresented(bytes), isPresented(encoder.encode(good))], [true, false]);
   const {code, heaps, period, letters, relations, portion} = presentedOf(text);
   assert.deepEqual([code, heaps, period, letters.join("")], ["0.75", 22, 0, "abc"]);

@@ -14,7 +14,7 @@ import {kindOfText} from "../page/text_kinds.js";
 import {isSaidP, isWhole, tripleOf, wholeName, wholeOf, wholeVerdict} from "../page/whole/fields.js";
 import {thirdOf} from "../page/whole/third.js";
 
-import {root, wholeTexts} from "./setup.js";
+import {faultsAre, root, wholeTexts} from "./setup.js";
 
 const held = path.join(process.env.MISERE_HELD ?? path.join(root, "web/out"), "atlas.json");
 const made = new Atlas(JSON.parse(readFileSync(held, "utf8")));
@@ -97,7 +97,7 @@ const WRONG = [
 ];
 
 test("the first fault of such a text is told, with its line", () => {
-  for (const [was, is, fault] of WRONG) assert.equal(faultOfText(text.replace(was, is)), fault);
+  faultsAre(text, WRONG);
   for (const [code, wanted] of wholeTexts) {
     assert.equal(faultOfText(wanted), "", code);
     assert.equal(kindOfText(new TextEncoder().encode(wanted)), "", code);

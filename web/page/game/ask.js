@@ -33,14 +33,42 @@ export function askSection(page, game) {
  * @param {(heaps: bigint[]) => Promise<import("../dom.js").Child[]>} saidOf
  */
 export function askForm(label, usual, saidOf) {
-  const field = make("input", {id: "heaps", value: usual, autocomplete: "off", inputmode: "text"});
-  const answer = make("p", {class: "verdict", role: "status", id: "answer"});
+  const fields = [{label, id: "heaps", value: usual}];
+  return positionForm("Ask it", "Who wins?", "answer", fields, ([heaps]) => saidOf(heaps));
+}
+
+/**
+ * Two fields for positions, and what is answered of both.
+ * @param {[string, string]} usual the positions that stand there at first
+ * @param {(one: bigint[], other: bigint[]) => Promise<import("../dom.js").Child[]>} saidOf
+ */
+export function compareForm([one, other], saidOf) {
+  const fields = [{label: "One position", id: "one", value: one}, {label: "another one", id: "other", value: other}];
+  return positionForm(
+      "Compare two positions", "Distinguishable?", "compared", fields, ([first, second]) => saidOf(first, second));
+}
+
+/**
+ * Fields for positions, and what is answered of them. What stands there is asked at once, so that an answer stands
+ * under it.
+ * @param {string} heading
+ * @param {string} button
+ * @param {string} id that of the answer
+ * @param {{label: string, id: string, value: string}[]} fields
+ * @param {(positions: bigint[][]) => Promise<import("../dom.js").Child[]>} saidOf
+ */
+function positionForm(heading, button, id, fields, saidOf) {
+  const inputs = fields.map(({id, value}) => make("input", {id, value, autocomplete: "off", inputmode: "text"}));
+  const answer = make("p", {class: "verdict", role: "status", id});
   const ask = async () => {
-    const heaps = heapsOfText(field.value);
-    answer.className = `verdict ${heaps ? "" : "none"}`;
-    if (!heaps) return fill(answer, NO_POSITION);
+    const positions = inputs.flatMap(({value}) => {
+      const heaps = heapsOfText(value);
+      return heaps ? [heaps] : [];
+    });
+    const areAll = positions.length === inputs.length;
+    answer.className = `verdict ${areAll ? "" : "none"}`;
     try {
-      fill(answer, ...(await saidOf(heaps)));
+      fill(answer, ...(areAll ? await saidOf(positions) : [NO_POSITION]));
     } catch (failure) {
       answer.classList.add("none");
       fill(answer, told(failure));
@@ -50,40 +78,10 @@ export function askForm(label, usual, saidOf) {
     event.preventDefault();
     return ask();
   };
-  const form = make("form", {class: "row", onsubmit}, labelled(label, field), make("button", {}, "Who wins?"));
-  // (what stands in the field is asked at once, so that an answer stands under it)
   ask();
-  return make("section", {class: "screen"}, make("h2", {}, "Ask it"), form, answer);
-}
-
-/**
- * Two fields for positions, and what is answered of both.
- * @param {[string, string]} usual the positions that stand there at first
- * @param {(one: bigint[], other: bigint[]) => Promise<import("../dom.js").Child[]>} saidOf
- */
-export function compareForm([one, other], saidOf) {
-  const fields = [["one", one], ["other", other]].map(
-      ([id, value]) => make("input", {id, value, autocomplete: "off", inputmode: "text"}));
-  const answer = make("p", {class: "verdict", role: "status", id: "compared"});
-  const compare = async () => {
-    const [x, y] = fields.map((it) => heapsOfText(it.value));
-    answer.className = "verdict";
-    try {
-      fill(answer, ...(x && y ? await saidOf(x, y) : [NO_POSITION]));
-    } catch (failure) {
-      answer.classList.add("none");
-      fill(answer, told(failure));
-    }
-  };
-  const onsubmit = (/** @type {Event} */ event) => {
-    event.preventDefault();
-    return compare();
-  };
-  compare();
-  const named = [labelled("One position", fields[0]), labelled("another one", fields[1])];
-  return make(
-      "section", {class: "screen"}, make("h2", {}, "Compare two positions"),
-      make("form", {class: "row", onsubmit}, named, make("button", {}, "Distinguishable?")), answer);
+  const named = inputs.map((it, at) => labelled(fields[at].label, it));
+  const form = make("form", {class: "row", onsubmit}, named, make("button", {}, button));
+  return make("section", {class: "screen"}, make("h2", {}, heading), form, answer);
 }
 
 /**
