@@ -5,7 +5,7 @@ from __future__ import annotations
 
 import ctypes
 from collections.abc import Sequence
-from typing import Any
+from typing import Any, NamedTuple
 
 from misere._library import Told, library
 
@@ -17,6 +17,15 @@ NO_MOVE = (UNTOLD,) * 5
 
 Move = tuple[int, int, int, int, int]
 Words = ctypes.Array[ctypes.c_uint64]
+
+
+class Check(NamedTuple):
+    """A certificate that is checked with a limit, and the status."""
+
+    name: str
+    certificate: bytes
+    limit: int
+    status: int
 
 
 def words(numbers: Sequence[int]) -> Words:

@@ -9,7 +9,20 @@ from typing import Any, NamedTuple
 from misere._library import Opened
 from tests import samples
 from tests.made_texts import nim, wrong_at
-from tests.raw_calls import NO_MOVE, UNCOUNTED, UNTOLD, Move, called, front, move_of, moves, numbers, told_in, words
+from tests.raw_calls import (
+    NO_MOVE,
+    UNCOUNTED,
+    UNTOLD,
+    Check,
+    Move,
+    called,
+    front,
+    move_of,
+    moves,
+    numbers,
+    told_in,
+    words,
+)
 
 # Of 0.3, where a move takes one from a heap: of the whole game, to heap 2, and one that is wrong at two heaps of 1
 FULL, PARTIAL = ((samples / f"{it}.mqc").read_bytes() for it in ("0.3", "0.3_heaps_2"))
@@ -17,13 +30,6 @@ WRONG = (samples / "refused/outcome_at_two_ones.mqc").read_bytes()
 LIMIT, LARGE_LIMIT = 100, 100_000
 HEAPS = [10**12, 1]
 ONES = [1] * 100
-
-
-class Check(NamedTuple):
-    name: str
-    certificate: bytes
-    limit: int
-    status: int
 
 
 CHECKS = [

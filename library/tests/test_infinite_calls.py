@@ -14,6 +14,7 @@ from tests.raw_calls import (
     NO_MOVE,
     UNCOUNTED,
     UNTOLD,
+    Check,
     Move,
     called,
     front,
@@ -34,13 +35,6 @@ WRONG, SHORT = (
 # A text of a whole game, and one which says that heap 9 never rules
 WHOLE = (samples / "0.26.mqw").read_bytes()
 UNRULED = WHOLE.replace(b"leads 0 0 0 0 0 0 0 0 1", b"leads 0 0 0 0 0 0 0 0 0")
-
-
-class Check(NamedTuple):
-    name: str
-    certificate: bytes
-    limit: int
-    status: int
 
 
 CHECKS = [
