@@ -12,6 +12,7 @@ from script import root
 SAMPLES = [f"certificates/{name}.mqc" for name in ("0.33", "0.75", "0.75_heaps_8", "0.b", "0.77", "0.71")]
 INFINITE_SAMPLES = [f"atlas/infinite/{name}.mqi" for name in ("0.354_heaps_5", "4.77_heaps_6", "0.005_heaps_18")]
 WHOLE_SAMPLES = ["certificates/0.26.mqw", "certificates/0.734.mqw", "atlas/whole/0.355.mqw", "certificates/0.f3.mqw"]
+PRESENTED_SAMPLES = ["certificates/0.75_heaps_22.mqp"]
 COUNT = 200
 
 
@@ -34,10 +35,11 @@ def changes(lines: list[str], at: int) -> Iterator[list[str]]:
 
 
 def ways_of(file: pathlib.Path) -> list[list[list[str]]]:
-    """How each line of a sample is changed. What is said of a whole game may be right of another code too, so that line
-    of such a text is left."""
+    """How each line of a sample is changed. What is said of a whole game may be right of another code too, and a cycle
+    of a presentation may begin later, so those lines of such texts are left."""
     lines = file.read_text().splitlines()
-    is_left = [file.suffix == ".mqw" and line.startswith("code ") for line in lines]
+    left = {".mqw": "code ", ".mqp": "cycle "}.get(file.suffix, "\n")
+    is_left = [line.startswith(left) for line in lines]
     return [[] if is_left[at] else list(changes(lines, at)) for at in range(len(lines))]
 
 

@@ -20,10 +20,15 @@ here = pathlib.Path(__file__).resolve().parent
 sys.path.insert(0, str(here.parent / "scripts"))
 
 LONGEST_NAME = 40
+LETTERS = "abcdefghijklmnopqrstuvwxyz"
 CLOSED = "Closed under the global context"
-# What a text has, as coq/Faults.v names it; and as coq/TracksFaults.v does of a text with tracks, after "No"
+# What a text has, as coq/Faults.v names it; as coq/TracksFaults.v does of a text with tracks, after "No"; and what
+# coq/PresentedText.v says of a presentation
 FAULTS = ("Text", "Law", "Word", "Order", "Period", "Apart", "Outcome")
 FAULTS_OF_TRACKS = ("Text", "Law", "Order", "Outcome", "Part", "Idle", "Undecided", "Ray")
+ANSWERS_OF_PRESENTATIONS = {"Text": "Unspelled", "Law": "Unlawful", "Part": "Leaving"}
+# The faults of texts by their files' endings
+FAULTS_OF = {".mqi": FAULTS_OF_TRACKS, ".mqp": tuple(ANSWERS_OF_PRESENTATIONS)}
 
 
 class Stated(Protocol):
@@ -88,6 +93,13 @@ class Text:
     def is_presentation(self) -> bool:
         """A text of a presentation: what it shows is that generators and relations are the quotient of its heaps."""
         return self.text.startswith(b"mqp ")
+
+    @property
+    def is_endless(self) -> bool:
+        """A presentation in which each power of some letter is an element: Coq doesn't take such a text."""
+        lefts = re.findall(r"^relation ([a-z])(?:\^\d+)? ", self.text.decode("latin-1"), re.M)
+        letters = self.line("letters", "").split()
+        return self.is_presentation and not set(LETTERS[: len(letters)]) <= set(lefts)
 
     @property
     def theorem(self) -> str:
@@ -159,9 +171,9 @@ class Text:
     def source_of_presentation(self) -> str:
         """The theorem of a text of a presentation."""
         if self.fault:
-            said = f"Theorem {self.theorem} : forall c, ~ spells_presentation text_of_{self.name} c.\n"
-            proof = "apply unread_presentation. vm_cast_no_check (eq_refl (@None presentation))"
-            return said + f"Proof. {proof}. Time Qed.\n"
+            answer = ANSWERS_OF_PRESENTATIONS[self.fault]
+            said = f"Theorem {self.theorem} : is_true_of_presentation text_of_{self.name} {answer}.\n"
+            return said + f"Proof. apply has_presented_answer. vm_cast_no_check (eq_refl {answer}). Time Qed.\n"
         if not self.right:
             said = f"Theorem {self.theorem} : presented_by text_of_{self.name} = None.\n"
             return said + "Proof. vm_cast_no_check (eq_refl (@None (code * N))). Time Qed.\n"
@@ -239,17 +251,18 @@ def certificate(text: bytes) -> Text:
 def fault_of(file: pathlib.Path) -> str:
     """The fault with which the name of a file begins."""
     begin = file.stem.split("_")[0].capitalize()
-    return begin if begin in (FAULTS_OF_TRACKS if file.suffix == ".mqi" else FAULTS) else ""
+    return begin if begin in FAULTS_OF.get(file.suffix, FAULTS) else ""
 
 
 def in_folder(folder: pathlib.Path, right: bool = True) -> list[Text]:
-    """The certificates of a folder, by their files' names. Those of refused ones begin with their fault; presentations
-    are left out there, since of these no fault is proved."""
-    return [
+    """The certificates of a folder, by their files' names, without presentations that Coq doesn't take. Those of refused
+    ones begin with their fault."""
+    texts = [
         Text(re.sub(r"\W", "_", file.stem), file.read_bytes(), right, "" if right else fault_of(file))
         for file in sorted(folder.iterdir())
-        if file.suffix in (".mqc", ".mqi", ".mqw", ".mqp") and (right or file.suffix != ".mqp")
+        if file.suffix in (".mqc", ".mqi", ".mqw", ".mqp")
     ]
+    return [it for it in texts if not it.is_endless]
 
 
 def in_catalogue(file: pathlib.Path) -> list[Text]:

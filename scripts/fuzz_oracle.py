@@ -15,10 +15,11 @@ import tempfile
 from collections import Counter
 from collections.abc import Iterable
 from concurrent.futures import ProcessPoolExecutor
-from dataclasses import dataclass
+from dataclasses import dataclass, replace
 from itertools import chain, repeat
 
 sys.dont_write_bytecode = True
+import presented
 import third_texts
 from fuzz_texts import changed
 from script import root
@@ -28,19 +29,29 @@ SECONDS = 60
 BATCH = 25  # so many texts to a run of the program of coq/
 LARGEST = 100  # the order above which a text isn't changed: with tracks each one takes seconds
 NUMBERED = re.compile(rb"(?m)^(phi|portion|words|row|apart|track|base|up|down|start|period|rise|odd|weights|leads) .*$")
+# Presentations are made of certificates with so many entries of the line phi at most, and one in so many
+FEW_HEAPS, STEP = 40, 4
+LETTERS = 26
 # Of a text with tracks a position at which the rule fails is looked for, by each program in its own way
-FOUND = {"no 7 Outcome", "no 32 Idle", "no 33 Undecided"}
-KINDS = ("without tracks", "with tracks", "of whole games")
+UNDECIDED = "no 33 Undecided"
+FOUND = {"no 7 Outcome", "no 32 Idle", UNDECIDED}
+KINDS = ("without tracks", "with tracks", "of whole games", "of presentations")
+COMMANDS = ("check", "infinite", "infinite", "verify")
 
 
 def are_small(texts: Iterable[bytes]) -> list[bytes]:
     return [it for it in texts if (order := re.search(rb"(?m)^order (\d+)$", it)) and int(order[1]) <= LARGEST]
 
 
+def of_the_atlas() -> list[bytes]:
+    """The certificates of the atlas of small orders."""
+    catalogues = [json.loads((root / f"atlas/{name}.json").read_text()) for name in ("octal", "hexadecimal")]
+    return are_small(entry["certificate"].encode() for it in catalogues for entry in it["entries"])
+
+
 def small_finite() -> list[bytes]:
     """The certificates of the atlas of small orders, and now and then one of the third format."""
-    catalogues = [json.loads((root / f"atlas/{name}.json").read_text()) for name in ("octal", "hexadecimal")]
-    texts = are_small(entry["certificate"].encode() for it in catalogues for entry in it["entries"])
+    texts = of_the_atlas()
     return texts + [text.encode() for text in third_texts.small()] * (len(texts) // 16)
 
 
@@ -54,6 +65,14 @@ def whole_games() -> list[bytes]:
     """The texts of whole games."""
     files = [*sorted(root.glob("certificates/*.mqw")), *sorted(root.glob("atlas/whole/*.mqw"))]
     return [file.read_bytes() for file in files]
+
+
+def presentations(program: str) -> list[bytes]:
+    """The presentations here, and those of certificates of few heaps, as the program describes them."""
+    few = [it.decode() for it in of_the_atlas() if it.split(b"\nphi ")[1].split(b"\n")[0].count(b" ") < FEW_HEAPS]
+    given = [presented.presentation_of(presented.described(program, it)) for it in few[::STEP]]
+    made = [it.text().encode() for it in given if len(it.letters) <= LETTERS]
+    return made + [file.read_bytes() for file in sorted(root.glob("certificates/**/*.mqp"))]
 
 
 def nudged(text: bytes, chance: random.Random) -> bytes:
@@ -84,6 +103,24 @@ def damaged(samples: list[bytes], chance: random.Random) -> bytes:
     for _ in range(chance.choice((1, 1, 2, 3))):
         text = changed(text, chance) if chance.randrange(4) == 0 else nudged(text, chance)
     return text
+
+
+def otherwise_presented(text: bytes, chance: random.Random) -> bytes:
+    """A presentation with one to three changes, and now and then without the word of a heap."""
+    given = presented.parsed(text.decode())
+    for _ in range(chance.choice((1, 1, 2, 3))):
+        given = presented.changed(chance, given) if given.relations else given
+    if chance.randrange(8) == 0:
+        at = chance.randrange(len(given.words) - 1) if len(given.words) > 1 else 0
+        given = replace(given, words=(*given.words[:at], None, *given.words[at + 1 :]))
+    return given.text().encode()
+
+
+def changed_text(samples: list[bytes], kind: str, chance: random.Random) -> bytes:
+    """A changed sample: of presentations most are so that they say something."""
+    if kind == KINDS[3] and chance.randrange(4):
+        return otherwise_presented(chance.choice(samples), chance)
+    return damaged(samples, chance)
 
 
 def line_of(words: list[str | pathlib.Path]) -> str:
@@ -122,11 +159,11 @@ class Oracle:
 
     def look(self, seeds: range, kind: str) -> list[tuple[str, str, int]]:
         """What misere says of changed texts, what the other program says, and the seeds."""
-        command = "check" if kind == KINDS[0] else "infinite"
+        command = COMMANDS[KINDS.index(kind)]
         with tempfile.TemporaryDirectory() as folder:
             files = {pathlib.Path(folder, str(seed)): seed for seed in seeds}
             for file, seed in files.items():
-                file.write_bytes(damaged(self.samples[kind], random.Random(seed)))
+                file.write_bytes(changed_text(self.samples[kind], kind, random.Random(seed)))
             others = checked(list(files))
             return [(as_told(line_of([self.program, command, it]), others[it]), others[it], files[it]) for it in files]
 
@@ -137,7 +174,7 @@ def is_given_up(said: str, other: str) -> bool:
 
 def as_told(said: str, other: str) -> str:
     """What misere says, without the position at which a text of a whole game is wrong: the other program seeks none."""
-    return other if (said, other) == ("no 7 Outcome", "no 33 Undecided") else said
+    return other if (said, other) == ("no 7 Outcome", UNDECIDED) else said
 
 
 def answer_of(line: str) -> str:
@@ -146,14 +183,22 @@ def answer_of(line: str) -> str:
 
 
 def oracle(program: str) -> Oracle:
-    return Oracle(program, dict(zip(KINDS, (small_finite(), small_infinite(), whole_games()))))
+    samples = (small_finite(), small_infinite(), whole_games(), presentations(program))
+    return Oracle(program, dict(zip(KINDS, samples)))
+
+
+def is_decided_once(said: str, other: str, kind: str) -> bool:
+    """Whether one of the two doesn't decide what the other says of a presentation, which is no contradiction."""
+    lines = (said, other)
+    return kind == KINDS[3] and UNDECIDED in lines and "no 1 Text" not in lines
 
 
 def look_at(oracle: Oracle, seed: int, count: int, kind: str, jobs: int | None) -> int:
     """Looks at so many changed texts and tells what was said of them. How many differ.
 
     A check that is given up at its limit isn't compared, nor one that has no end in a minute: these are counted. So
-    are those of which the two find different faults of FOUND, each of which may be there.
+    are those of which the two find different faults of FOUND, each of which may be there, and presentations of which
+    one decides nothing.
     """
     answers: Counter[str] = Counter()
     wrong = 0
@@ -166,8 +211,9 @@ def look_at(oracle: Oracle, seed: int, count: int, kind: str, jobs: int | None) 
                 answers["not compared"] += 1
             elif said == other:
                 answers[answer_of(said)] += 1
-            elif {said, other} <= FOUND:
-                answers[f"{said} ({other.split()[1]} by coq/)"] += 1
+            elif {said, other} <= FOUND or is_decided_once(said, other, kind):
+                number = other.split()[1] if other.startswith("no ") else answer_of(other)
+                answers[f"{answer_of(said)} ({number} by coq/)"] += 1
             else:
                 wrong += 1
                 print(f"seed {at}: {said!r}, and by coq/ {other!r}", flush=True)

@@ -67,6 +67,12 @@ class Presentation:
         ]
         return "\n".join(lines) + "\n"
 
+    @property
+    def is_endless(self) -> bool:
+        """Whether each power of some letter is a standard word."""
+        powers = [[i for i, n in enumerate(left) if n] for left, _ in self.relations]
+        return any([i] not in powers for i in range(len(self.letters)))
+
     def standard_words(self, most: int) -> set[Word]:
         """The words in which no left one is, if there are no more than so many."""
         lefts = [left for left, _ in self.relations]
@@ -93,6 +99,23 @@ class Presentation:
         """All that it says: two of these are equal if the texts say the same in the same letters."""
         portion = frozenset(filter(self.is_p, self.standard_words(most)))
         return self.code, self.letters, self.words, frozenset(self.relations), portion
+
+
+def parsed(text: str) -> Presentation:
+    """What a text of a presentation says that has no period."""
+    lines = [line.split(" ") for line in text.splitlines()]
+    named = {words[0]: words[1:] for words in lines if words[0] != "relation"}
+    count = len(named["letters"])
+    relations = [(exponents(words[1], count), exponents(words[2], count)) for words in lines if words[0] == "relation"]
+    cycles = [(int(start), int(period)) for start, period in (it.split(":") for it in named["cycle"])]
+    return Presentation(
+        code=named["code"][0],
+        letters=tuple(map(int, named["letters"])),
+        words=tuple(None if it == "-" else exponents(it, count) for it in named["words"]),
+        relations=tuple(relations),
+        cycles=tuple(cycles),
+        portion=tuple(exponents(it, count) for it in named["portion"]),
+    )
 
 
 def described(program: str, certificate: str) -> dict[str, Any]:

@@ -17,6 +17,10 @@ let help =
   \    infinite CODE whole\n\
   \    no 1 Text                it is no such text\n\
   \    no 33 Undecided          it isn't seen to be right; misere may say 7, and where it is wrong\n\
+   and of one of a presentation, which begins with `mqp`, that of `misere verify`:\n\
+  \    yes CODE order ORDER heaps LAST\n\
+  \    no NUMBER NAME           the fault: 1 Text, 2 Law, 31 Part; or\n\
+  \    no 33 Undecided          it isn't seen to be right; of those with infinitely many elements none is\n\
    Of several files each line has the file's name and a tab before it. There is no limit: `no 8 Limit` is\n\
    never said.\n\n\
    The status is 0 if all are accepted, 1 if one isn't, 2 if no file is named, 3 if one can't be read or stack or\n\
