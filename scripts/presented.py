@@ -1,4 +1,5 @@
-"""Presentations as certificates: their texts, made of what `misere describe --basis --json` prints, and changed ones."""
+"""Presentations as certificates: their texts, made of what `misere describe --basis --json` prints, and changed
+ones."""
 
 from __future__ import annotations
 
