@@ -2,11 +2,10 @@
 //! position.
 #![tactic(auto)]
 
-mod glance;
-mod looking;
 mod reached;
 mod rule;
 mod search;
+mod triples;
 
 pub use rule::rule_fails_at;
 pub use search::failing_position;

@@ -1,8 +1,8 @@
 -- The options of a position, place by place: what a look at them finds. This project's own.
 use Rattle.std.specs.Prelude.{◌≡◌, ℕ, suc, Bool, true, false, List, ◌++◌, slice_index, take, drop}
 use Rattle.misere_theory.specs.Games.{HeapOption, Move}
-use Rattle.dominance_rule.specs.declared.glance.Glance.{Glance}
-use Rattle.dominance_rule.specs.declared.glance.Glance.TheVariants.{Still, Out, In, Unknown}
+use Rattle.outcome_rule.specs.declared.glance.Glance.{Glance}
+use Rattle.outcome_rule.specs.declared.glance.Glance.TheVariants.{Still, Out, In, Unknown}
 
 -- The heaps H take the place of heap number k.
 abbrev pub replaced : List ℕ → ℕ → List ℕ → List ℕ

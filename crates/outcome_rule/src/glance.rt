@@ -5,10 +5,10 @@
 pub enum Glance {
     /// There are none.
     Still,
-    /// There are some, and the claim says P of none of them.
+    /// There are some, and none of them is said to be P.
     Out,
-    /// The claim says P of one.
+    /// One is said to be P.
     In,
-    /// Numbers grew too large to say.
+    /// Of one it can't be told.
     Unknown,
 }

@@ -4,18 +4,18 @@ use Rattle.std.specs.List.{Contains}
 use Rattle.std.proofs.lemmas.List.{append-nil}
 use Rattle.std.proofs.lemmas.List.Elements.{Contains-append_left, Contains-append_right, Contains-append_cases}
 use Rattle.misere_theory.proofs.ListLaws.{only_in, itself_in}
-use Rattle.std.specs.Prelude.{IsTrue}
+use Rattle.std.specs.Prelude.{◌↔◌}
+use Rattle.std.proofs.lemmas.Bool.{true≢false}
 use Rattle.misere_theory.specs.Games.{HeapOption}
-use Rattle.misere_theory.specs.Labels.{BreaksRule, says_by}
+use Rattle.misere_theory.specs.Labels.{BreaksRule}
 use Rattle.heap_options.specs.Exact.{heaps_of, IsInOrder}
 use Rattle.heap_options.specs.Options.{options_of, options_up_to}
 use Rattle.heap_options.specs.declared.left.Left.{Left}
-use Rattle.dominance.specs.Triples.{Triple, claim_by}
-use Rattle.dominance_rule.specs.Looks.{replaced, MovesAt, LeadsOutAt, IsLookAt, IsLook, joined}
-use Rattle.dominance_rule.specs.declared.glance.Glance.{Glance}
-use Rattle.dominance_rule.specs.declared.glance.Glance.TheVariants.{Still, Out, In, Unknown}
-use Rattle.dominance_rule.proofs.Below.{last_or_before}
-use Rattle.dominance_rule.proofs.Moved.{move_at, at_move, says_shuffled}
+use Rattle.outcome_rule.specs.Looks.{replaced, MovesAt, LeadsOutAt, IsLookAt, IsLook, joined}
+use Rattle.outcome_rule.specs.declared.glance.Glance.{Glance}
+use Rattle.outcome_rule.specs.declared.glance.Glance.TheVariants.{Still, Out, In, Unknown}
+use Rattle.outcome_rule.proofs.Below.{last_or_before}
+use Rattle.outcome_rule.proofs.Moved.{move_at, at_move, permuted}
 
 -- of these options of heap number k there are none, or P is said of none of them
 abbrev pub IsPassed : (List ℕ → Bool) → List ℕ → ℕ → List Left → Glance → Type 0
@@ -25,12 +25,6 @@ IsPassed says X k lefts Out =
     × ((left : Left) → Contains lefts left → says (replaced X k (heaps_of left)) ≡ false)
 IsPassed says X k lefts In = ⊥
 IsPassed says X k lefts Unknown = ⊥
-
--- so far that is so of the front of a list of options, which is walked
-pub record IsWalked (says : List ℕ → Bool) (X : List ℕ) (k : ℕ) (xs ys zs : List Left) (found : Glance)
-    : Type 0 where
-  pub whole : xs ++ ys ≡ zs
-  pub passed : IsPassed says X k xs found
 
 -- what is found is so of the moves in the first n heaps of X
 abbrev pub IsLookBelow : List ℕ → (List ℕ → Bool) → List ℕ → ℕ → Glance → Type 0
@@ -43,8 +37,23 @@ IsLookBelow code says X n In =
 IsLookBelow code says X n Unknown = Unit {0}
 
 -- what is told of a value, where it is this
-pub told : (o : Option Bool) (x b v : Bool) → o ≡ Some x → x ≡ b → IfSome o (λ y. y ≡ v) → v ≡ b
-told o x b v e f h = sym (subst (λ o. IfSome o (λ y. y ≡ v)) e h) ∙ f
+pub told : (P : Bool → Type 0) (o : Option Bool) (x b : Bool) → o ≡ Some x → x ≡ b → IfSome o P → P b
+told P o x b e f h = subst P f (subst (λ o. IfSome o P) e h)
+
+-- ---- a list of options that is walked: xs of it, and then ys
+
+module _ (xs ys zs : List Left) (whole : xs ++ ys ≡ zs) where
+  pub at_end : ys ≡ [] → xs ≡ zs
+  at_end end = sym (append-nil xs) ∙ ap (λ v. xs ++ v) (sym end) ∙ whole
+
+  module _ (x : Left) (rest : List Left) (first : ys ≡ x ∷ rest) where
+    pub item : Contains zs x
+    item =
+        subst (λ v. Contains v x) (ap (λ v. xs ++ v) (sym first) ∙ whole)
+        (Contains-append_right xs (x ∷ rest) x (Contains-append_left (x ∷ []) rest x (itself_in x)))
+
+    pub one_on : (xs ++ x ∷ []) ++ rest ≡ zs
+    one_on = append_assoc xs (x ∷ []) rest ∙ (ap (λ v. xs ++ v) (sym first) ∙ whole)
 
 module _ (says : List ℕ → Bool) (X : List ℕ) (k : ℕ) where
   out_so_far : (xs : List Left) (found : Glance) → IsPassed says X k xs found
@@ -54,40 +63,22 @@ module _ (says : List ℕ → Bool) (X : List ℕ) (k : ℕ) where
   out_so_far xs In h left i = absurd h
   out_so_far xs Unknown h left i = absurd h
 
-  pub item : (xs ys zs : List Left) (x : Left) (rest : List Left) (found : Glance)
-      → IsWalked says X k xs ys zs found → ys ≡ x ∷ rest → Contains zs x
-  item xs ys zs x rest found w first =
-      subst (λ v. Contains v x) (ap (λ v. xs ++ v) (sym first) ∙ w.whole)
-      (Contains-append_right xs (x ∷ rest) x (Contains-append_left (x ∷ []) rest x (itself_in x)))
+  pub passed_more : (xs : List Left) (x : Left) (found : Glance) → IsPassed says X k xs found
+      → says (replaced X k (heaps_of x)) ≡ false → IsPassed says X k (xs ++ x ∷ []) Out
+  passed_more xs x found passed h = (
+    omega (arith, length-append xs (x ∷ [])),
+    λ y i. elim (Contains-append_cases xs (x ∷ []) y i) [
+      | inl a ↦ out_so_far xs found passed y a
+      | inr b ↦ subst (λ z. says (replaced X k (heaps_of z)) ≡ false) (only_in x y b) h
+    ],
+  )
 
-  pub passed_more : (xs ys zs : List Left) (x : Left) (rest : List Left) (found : Glance)
-      → IsWalked says X k xs ys zs found → ys ≡ x ∷ rest
-      → says (replaced X k (heaps_of x)) ≡ false → IsWalked says X k (xs ++ x ∷ []) rest zs Out
-  passed_more xs ys zs x rest found w first h = record {
-    whole = append_assoc xs (x ∷ []) rest ∙ (ap (λ v. xs ++ v) (sym first) ∙ w.whole);
-    passed = (
-      omega (arith, length-append xs (x ∷ [])),
-      λ y i. elim (Contains-append_cases xs (x ∷ []) y i) [
-        | inl a ↦ out_so_far xs found w.passed y a
-        | inr b ↦ subst (λ z. says (replaced X k (heaps_of z)) ≡ false) (only_in x y b) h
-      ],
-    );
-  }
-
-  pub passed_all : (xs ys zs : List Left) (found : Glance) → IsWalked says X k xs ys zs found → ys ≡ []
-      → IsPassed says X k zs found
-  passed_all xs ys zs found w end =
-      subst (λ v. IsPassed says X k v found)
-      (sym (append-nil xs) ∙ ap (λ v. xs ++ v) (sym end) ∙ w.whole) w.passed
-
-module _ (code : List ℕ) (label : ℕ → Triple) (X : List ℕ) (k : ℕ)
+module _ (code : List ℕ) (says : List ℕ → Bool)
+    (in_any_order : (X Y : List ℕ) → IsPermutation X Y → says X ≡ says Y) (X : List ℕ) (k : ℕ)
     (each : (n : ℕ) (H : List ℕ) → HeapOption code n H
     → (left : Left) × Contains (options_of code n) left × IsPermutation (heaps_of left) H)
     (only : (n most : ℕ) (left : Left) → Contains (options_up_to code n most) left
     → HeapOption code n (heaps_of left) × IsInOrder left) where
-  abbrev says : List ℕ → Bool
-  says = says_by (claim_by label)
-
   abbrev n : ℕ
   n = slice_index X k
 
@@ -101,7 +92,8 @@ module _ (code : List ℕ) (label : ℕ → Triple) (X : List ℕ) (k : ℕ)
       λ moved. let (left, (i, l, e), p) = each n moved.0 moved.1 in absurd (omega (arith, l, h))
   look_is Out h = (
     some (options_of code n) (λ left i. (heaps_of left, (only n n left i).0)) h.0,
-    λ H o. let (left, i, p) = each n H o in sym (says_shuffled label X k (heaps_of left) H p) ∙ h.1 left i,
+    λ H o. let (left, i, p) = each n H o in
+        sym (in_any_order _ _ (permuted X k (heaps_of left) H p)) ∙ h.1 left i,
   )
     where
       some : (lefts : List Left) → ((left : Left) → Contains lefts left → MovesAt code X k)
@@ -157,17 +149,36 @@ module _ (code : List ℕ) (says : List ℕ → Bool) (X : List ℕ) where
   all_looked In f = let (k, l, (H, o, t)) = f in (replaced X k H, at_move code X k H l o, t)
   all_looked Unknown f = tt
 
-  pub fails_still : (is_p : Bool) → is_p ≡ says X → IsLook code says X Still → IsTrue is_p
-      → BreaksRule code says X
-  fails_still true e h t = inl (sym e, inl h)
-  fails_still false e h t = cc
+  pub fails_still : (is_p : Bool) → is_p ≡ says X → IsLook code says X Still
+      → (is_p ≡ true) ↔ BreaksRule code says X
+  fails_still true e h = (λ _. inl (sym e, inl h), λ _. refl)
+  fails_still false e h = (
+    λ t. absurd (true≢false (sym t)),
+    λ f. elim f [
+      | inl (t, _) ↦ absurd (true≢false (sym t ∙ sym e))
+      | inr (_, (Y, i), _) ↦ absurd (h Y i)
+    ],
+  )
 
-  pub fails_in : (is_p : Bool) → is_p ≡ says X → IsLook code says X In → IsTrue is_p
-      → BreaksRule code says X
-  fails_in true e h t = inl (sym e, inr h)
-  fails_in false e h t = cc
+  pub fails_in : (is_p : Bool) → is_p ≡ says X → IsLook code says X In
+      → (is_p ≡ true) ↔ BreaksRule code says X
+  fails_in true e h = (λ _. inl (sym e, inr h), λ _. refl)
+  fails_in false e h = (
+    λ t. absurd (true≢false (sym t)),
+    λ f. elim f [
+      | inl (t, _) ↦ absurd (true≢false (sym t ∙ sym e))
+      | inr (_, _, all) ↦ let (Y, i, t) = h in absurd (true≢false (sym t ∙ all Y i))
+    ],
+  )
 
-  pub fails_out : (is_p : Bool) → is_p ≡ says X → IsLook code says X Out → IsTrue (not is_p)
-      → BreaksRule code says X
-  fails_out false e h t = inr (sym e, h.0, h.1)
-  fails_out true e h t = cc
+  pub fails_out : (is_p : Bool) → is_p ≡ says X → IsLook code says X Out
+      → (not is_p ≡ true) ↔ BreaksRule code says X
+  fails_out false e h = (λ _. inr (sym e, h.0, h.1), λ _. refl)
+  fails_out true e h = (
+    λ t. absurd (true≢false (sym t)),
+    λ f. elim f [
+      | inl (_, inl none) ↦ absurd (none h.0.0 h.0.1)
+      | inl (_, inr (Y, i, t)) ↦ absurd (true≢false (sym t ∙ h.1 Y i))
+      | inr (t, _, _) ↦ absurd (true≢false (e ∙ t))
+    ],
+  )
