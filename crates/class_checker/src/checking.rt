@@ -1,5 +1,6 @@
 //! The check of a presentation with infinitely many elements, by their classes.
 ghost use Rattle.std.specs.Prelude.{◌≡◌, ◌≢◌, ◌<◌, ℕ, IfOk, IfErr, IsTrue, All, length, slice_index};
+ghost use Rattle.misere_theory.specs.Parts.{IsInfinite};
 ghost use Rattle.presentations.specs.declared.TheConstants.{LETTERS};
 ghost use Rattle.presentations.specs.Vectors.{only};
 ghost use Rattle.kept_checker.specs.Numbers.{KeptPositions, AreFamiliesTested};
@@ -7,12 +8,13 @@ ghost use Rattle.presented_text.specs.Said.{IsInRanges};
 ghost use Rattle.presented_claims.specs.Claims.{IsElement};
 ghost use Rattle.presented_claims.specs.Presents.{Presents};
 ghost use Rattle.presented_forms.specs.Form.{IsInForm};
+ghost use Rattle.presented_tables.specs.Tested.{HasWord};
 ghost use Rattle.presented_tables.specs.Faults.{IsTrueOf};
 ghost use Rattle.class_tables.specs.Tested.{AreTestedClasses};
 ghost use Rattle.class_checker.specs.Endless.{IsEndless, AreSettled};
 
 use allocation::Memory;
-use class_tables::{ClassTables, class_tables_of, folds_for};
+use class_tables::{ClassTables, class_tables_of, folds_for, test_presented};
 use kept_checker::{NotFound, tested_families};
 use normal_forms::Rule;
 use presentations::LETTERS;
@@ -169,6 +171,7 @@ fn present_with<A: Allocator + Copy>(
     requires ranges { IsInRanges p.now }
     requires in_form { IsInForm p.now }
     ensures yes { IfOk result (λ _. Presents p.now) }
+    ensures infinite { IfOk result (λ _. IsEndless p.now → IsInfinite (HasWord p.now) p.now.code) }
     ensures fault { IfErr result (λ f. IsTrueOf p.now f) }
 {
     let folds = folds_for(alloc, p, more)?;
@@ -178,12 +181,14 @@ fn present_with<A: Allocator + Copy>(
     Ok(())
 }
 
-/// Sees that a presentation is the misère quotient of its heaps, though it has infinitely many elements.
+/// Sees that a presentation is the misère quotient of its heaps, by classes of its elements; and that the quotient is
+/// infinite, if each power of some letter is an element.
 ///
 /// # Errors
 ///
-/// `Letters`, `Leaves` and `Ended` are true of the presentation, and refuse it. The others say nothing of it: no folds are
-/// found by which its classes are told apart and no position breaks the rule; and want of memory.
+/// `Letters`, `Leaves` and `Ended` are true of the presentation, and refuse it. The others say nothing of it: `Undecided`,
+/// if no folds are found by which its classes are told apart and no position breaks the rule; `Limit`, if all folds that
+/// are tried have too many classes; and want of memory.
 pub fn present_by_classes<A: Allocator + Copy>(
     alloc: A,
     p: &Presented<A>,
@@ -191,15 +196,22 @@ pub fn present_by_classes<A: Allocator + Copy>(
     requires ranges { IsInRanges p.now }
     requires in_form { IsInForm p.now }
     ensures yes { IfOk result (λ _. Presents p.now) }
+    ensures infinite { IfOk result (λ _. IsEndless p.now → IsInfinite (HasWord p.now) p.now.code) }
     ensures fault { IfErr result (λ f. IsTrueOf p.now f) }
 {
+    test_presented(p)?;
+    let mut is_limit = true;
     for more in 1..MOST_MORE + 1 {
         match present_with(alloc, p, more) {
             Ok(()) => return Ok(()),
-            Err(TablesFault::Undecided) => {}
+            Err(TablesFault::Undecided) => is_limit = false,
             Err(TablesFault::Limit) => {}
             Err(fault) => return Err(fault),
         }
     }
-    Err(TablesFault::Undecided)
+    if is_limit {
+        Err(TablesFault::Limit)
+    } else {
+        Err(TablesFault::Undecided)
+    }
 }

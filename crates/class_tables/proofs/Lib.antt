@@ -1,5 +1,4 @@
 pub mod LedClasses
-pub mod Words
 pub mod Indexed
 pub mod Firsts
 pub mod Pushed

@@ -8,12 +8,11 @@ ghost use Rattle.presented_tables.specs.Tested.{Says, SomeSays, NoneSays, AreWor
 ghost use Rattle.word_cells.specs.Folds.{AreFiner};
 ghost use Rattle.class_tables.specs.Classes.{AreFolds, IsOfClass, HaveFold, AreSaid, AreBeside};
 
-use crate::folding::folded;
-use crate::leading::{lead, product};
+use crate::leading::lead;
 use heap_options::{Left, options, options_are_exact};
 use normal_forms::Exponents;
 use presentations::LETTERS;
-use presented_tables::{Beside, Presented, in_portion};
+use presented_tables::{Beside, Presented, cycled_word, in_portion, product};
 use presented_text::LetterCycle;
 use std::alloc::Allocator;
 
@@ -60,7 +59,7 @@ pub(crate) fn led_fold<A: Allocator>(
 {
     let _rules = p.basis.rules();
     let led = lead(p, tops, folds, &[], q, word)?;
-    Some(folded(tops, &led.to))
+    Some(cycled_word(tops, &led.to))
 }
 
 /// Whether the elements of the class `q` are in the portion, times the word: all of them or none.
@@ -144,7 +143,7 @@ fn says_option<A: Allocator>(
 }
 
 /// What heap `n` does beside the elements of the class.
-pub fn heap_beside<A: Allocator>(
+pub(crate) fn heap_beside<A: Allocator>(
     p: &Presented<A>,
     tops: &[LetterCycle],
     folds: &[LetterCycle],

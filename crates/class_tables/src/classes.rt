@@ -40,7 +40,7 @@ fn compared(v: &Exponents, w: &Exponents) -> Ordering {
 
 impl<A: Allocator> ListedWords<A> {
     /// The word of nothing.
-    pub(crate) fn new(alloc: A) -> Result<ListedWords<A>, Memory>
+    pub fn new(alloc: A) -> Result<ListedWords<A>, Memory>
     where
         A: Copy,
     {
@@ -99,7 +99,7 @@ impl<A: Allocator> ListedWords<A> {
     }
 
     /// Adds the word, if it isn't there.
-    pub(crate) fn add(&mut self, word: Exponents) -> Result<(), Memory> {
+    pub fn add(&mut self, word: Exponents) -> Result<(), Memory> {
         let (at, found) = self.place(&word);
         if found.is_some() {
             return Ok(());

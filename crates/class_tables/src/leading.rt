@@ -13,7 +13,7 @@ use crate::steps::periods_between;
 use crate::weighing::weight;
 use normal_forms::Exponents;
 use presentations::LETTERS;
-use presented_tables::Presented;
+use presented_tables::{Presented, product};
 use presented_text::LetterCycle;
 use std::alloc::Allocator;
 use std::marker::Model;
@@ -33,17 +33,6 @@ impl Model for Led {
     ghost view = { λ l. record { to = l.to; turns = l.turns } };
 
     ghost inverse = { λ l. record { to = l.to; turns = l.turns } };
-}
-
-/// The product of two words, if there is room.
-pub(crate) fn product(v: &Exponents, w: &Exponents) -> Option<Exponents>
-    ensures { IfSome result (λ p. p ≡ plus v.now w.now) }
-{
-    let mut sum = *v;
-    for i in 0..LETTERS {
-        sum[i] = v[i].checked_add(w[i])?;
-    }
-    Some(sum)
 }
 
 /// The power of a letter.
@@ -124,7 +113,7 @@ fn turn_at<A: Allocator>(
 }
 
 /// Where the word `z` leads the class `a`, if each letter that runs on in it is seen to become whole periods there.
-pub fn lead<A: Allocator>(
+pub(crate) fn lead<A: Allocator>(
     p: &Presented<A>,
     tops: &[LetterCycle],
     folds: &[LetterCycle],

@@ -17,11 +17,7 @@ mod thresholds;
 mod turning;
 mod weighing;
 
-pub use beside::heap_beside;
 pub use classes::ListedWords;
-pub use folding::folded;
-pub use leading::{Led, lead};
-pub use listing::classes_of;
 pub use lists::{ClassLists, Folds};
 pub use raising::folds_for;
-pub use tables::{ClassTables, class_tables_of};
+pub use tables::{ClassTables, class_tables_of, test_presented};

@@ -8,24 +8,11 @@ ghost use Rattle.word_cells.specs.Folds.{HavePeriods};
 ghost use Rattle.class_tables.specs.Classes.{word_at, IsThere, AreClasses};
 
 use crate::classes::ListedWords;
-use crate::folding::folded;
 use normal_forms::Exponents;
 use presentations::LETTERS;
-use presented_tables::{Presented, TablesFault, is_in, is_word};
+use presented_tables::{Presented, TablesFault, cycled_word, is_in, is_word, with_letter};
 use presented_text::LetterCycle;
 use std::alloc::Allocator;
-
-/// The word with letter `i` once more, if there is room.
-fn with_letter(word: &Exponents, i: usize) -> Option<Exponents>
-    ensures { IfSome result (λ w. w ≡ plus word.now (only LETTERS i 1)) }
-{
-    if i >= LETTERS {
-        return None;
-    }
-    let mut more = *word;
-    more[i] = word[i].checked_add(1)?;
-    Some(more)
-}
 
 /// Whether the word is an element.
 pub(crate) fn is_element<A: Allocator>(p: &Presented<A>, word: &Exponents) -> bool
@@ -38,7 +25,7 @@ pub(crate) fn is_element<A: Allocator>(p: &Presented<A>, word: &Exponents) -> bo
 fn is_class<A: Allocator>(p: &Presented<A>, folds: &[LetterCycle], word: &Exponents) -> bool
     ensures { IsTrue result ↔ (IsElement p.now word.now × (cycled folds.now word.now ≡ word.now)) }
 {
-    is_element(p, word) && is_word(&folded(folds, word), word)
+    is_element(p, word) && is_word(&cycled_word(folds, word), word)
 }
 
 /// Adds the classes to which letters lead from word `x`.
@@ -190,7 +177,7 @@ fn are_classes<A: Allocator>(p: &Presented<A>, folds: &[LetterCycle], list: &Lis
 }
 
 /// All classes, at most so many.
-pub fn classes_of<A: Allocator + Copy>(
+pub(crate) fn classes_of<A: Allocator + Copy>(
     alloc: A,
     p: &Presented<A>,
     folds: &[LetterCycle],

@@ -6,14 +6,14 @@ ghost use Rattle.presented_tables.specs.Faults.{IsTrueOf};
 use crate::beside::heap_word;
 use crate::classes::ListedWords;
 use crate::folding::cycle_at;
-use crate::leading::{form_of, lead, product};
+use crate::leading::{form_of, lead};
 use crate::listing::words_of;
 use crate::lists::{Folds, MOST_CLASSES};
 use allocation::Memory;
 use heap_options::{Left, options};
 use normal_forms::{Exponents, Rule};
 use presentations::LETTERS;
-use presented_tables::{Presented, TablesFault};
+use presented_tables::{Presented, TablesFault, product};
 use presented_text::LetterCycle;
 use std::alloc::Allocator;
 

@@ -98,6 +98,20 @@ fn test_heaps<A: Allocator>(p: &Presented<A>) -> Result<(), TablesFault>
     }
 }
 
+/// Tests all that is seen without classes: letters, heaps, and the word of nothing.
+///
+/// # Errors
+///
+/// `Letters`, `Leaves` and `Ended` are true of the presentation, and refuse it; `Limit` and `Undecided` say nothing of it: heaps
+/// without end, and a heap without options whose word isn't seen to be that of nothing.
+pub fn test_presented<A: Allocator>(p: &Presented<A>) -> Result<(), TablesFault>
+    ensures tested { IfOk result (λ _. AreHeapsTested p.now) }
+    ensures fault { IfErr result (λ f. IsTrueOf p.now f) }
+{
+    test_within(p)?;
+    test_heaps(p)
+}
+
 /// For each of the words whether it is in the portion.
 fn bits_of<A: Allocator + Copy>(
     alloc: A,
@@ -148,7 +162,7 @@ fn label_tables<A: Allocator + Copy>(
     })
 }
 
-/// The most that pairs of classes, labels and relations come to, multiplied: some minutes of work.
+/// The most that pairs of classes, labels and relations come to, multiplied, in one look: some minutes of work.
 const MOST_WORK: u64 = 1 << 34;
 
 /// Whether what the tables would take is more than that.

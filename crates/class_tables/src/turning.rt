@@ -11,14 +11,13 @@ ghost use Rattle.class_tables.specs.Turns.{AreFine, DoesTake, IsTurned, AreTurne
 
 use crate::beside::{heap_word, led_fold};
 use crate::classes::ListedWords;
-use crate::folding::folded;
 use crate::listing::classes_of;
 use crate::lists::{ClassLists, MOST_CLASSES};
 use crate::rows::size_at;
 use crate::thresholds::{are_finer, are_folds};
 use kept_checker::{ClassTurns, LabelTables};
 use normal_forms::Exponents;
-use presented_tables::{HeapNumbers, Presented, TablesFault, is_word};
+use presented_tables::{HeapNumbers, Presented, TablesFault, cycled_word, is_word};
 use presented_text::LetterCycle;
 use std::alloc::{Allocator, Global};
 use std::marker::Model;
@@ -100,7 +99,7 @@ fn class_of<A: Allocator>(l: &ClassLists<A>, f: &FineClasses<A>, k: usize) -> Op
     ensures { IfSome result (λ x. place l.now.classes (cycled l.now.folds (word_at f.now.classes k)) ≡ x) }
 {
     let class = f.classes.get(k)?;
-    first_place(&l.classes, &folded(&l.folds, class))
+    first_place(&l.classes, &cycled_word(&l.folds, class))
 }
 
 /// Marks where the heap of number `g` takes the classes: an entry for each two of them.

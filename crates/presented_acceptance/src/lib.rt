@@ -5,8 +5,6 @@
 #[cfg(test)]
 mod kept_checker_tests;
 #[cfg(test)]
-mod lowered_labels_tests;
-#[cfg(test)]
 mod presented_checker_tests;
 #[cfg(test)]
 mod presented_tables_tests;

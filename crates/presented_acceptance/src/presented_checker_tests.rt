@@ -40,7 +40,13 @@ fn wrong_presentations_are_refused(rt: HostRuntime) {
     // b has no power among the left words; and b⁴ is said to be N, and leads to no P.
     let text =
         b"mqp 1\ncode 0.33\nheaps 2\nletters 1 2\nwords a b\nrelation a^2 1\ncycle 2:1 3:1\nportion a b^2\nend\n";
-    assert!(rt; is_said(rt.alloc(), text, b"no 33 Undecided\n"));
+    assert!(rt;
+        is_said(
+            rt.alloc(),
+            text,
+            b"no 7 Outcome\nrule fails at 2 2 2 2\noutcome P\n"
+        )
+    );
     // Heap 1 is left out, and heap 2 leads to it.
     let text =
         b"mqp 1\ncode 0.33\nheaps 2\nletters 2\nwords - a\nrelation a^2 1\ncycle 2:1\nportion a\nend\n";
@@ -48,9 +54,23 @@ fn wrong_presentations_are_refused(rt: HostRuntime) {
     // b² is P.
     let text =
         b"mqp 1\ncode 0.33\nheaps 2\nletters 1 2\nwords a b\nrelation a^2 1\nrelation b^3 b\ncycle 2:1 3:1\nportion a\nend\n";
-    assert!(rt; is_said(rt.alloc(), text, b"no 33 Undecided\n"));
+    assert!(rt;
+        is_said(
+            rt.alloc(),
+            text,
+            b"no 7 Outcome\nrule fails at 2 2\noutcome P\n"
+        )
+    );
     // b³ is another word than b, but no position tells them apart.
     let text =
         b"mqp 1\ncode 0.33\nheaps 2\nletters 1 2\nwords a b\nrelation a^2 1\nrelation b^5 b^3\ncycle 2:1 3:2\nportion a b^2 b^4\nend\n";
+    assert!(rt; is_said(rt.alloc(), text, b"no 33 Undecided\n"));
+    // The portion repeats along a from 2 on, and isn't said to from 3 on.
+    let text =
+        b"mqp 1\ncode 0.33\nheaps 2\nletters 1 2\nwords a b\nrelation a^2 1\nrelation b^3 b\ncycle 3:1 3:1\nportion a b^2\nend\n";
+    assert!(rt; is_said(rt.alloc(), text, b"no 33 Undecided\n"));
+    // The list ends with a heap that has no word.
+    let text =
+        b"mqp 1\ncode 0.33\nheaps 3\nletters 1 2\nwords a b -\nrelation a^2 1\nrelation b^3 b\ncycle 2:1 3:1\nportion a b^2\nend\n";
     assert!(rt; is_said(rt.alloc(), text, b"no 33 Undecided\n"));
 }

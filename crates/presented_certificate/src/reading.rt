@@ -83,10 +83,10 @@ fn words_line<A: Allocator>(
     let found = lists::heap_words(alloc, reader, count)?;
     reader.fixed(b"\n")?;
     if found.len() == count as usize {
-        Ok(found)
-    } else {
-        Err(TextFault::Text)
+        return Ok(found);
     }
+    reader.wants(reader.left().saturating_add(1), Wanted::More);
+    Err(TextFault::Text)
 }
 
 /// The line of the letters' cycles.
@@ -103,10 +103,10 @@ fn cycle_line<A: Allocator>(
     let found = lists::cycles(alloc, reader, count)?;
     reader.fixed(b"\n")?;
     if found.len() == count {
-        Ok(found)
-    } else {
-        Err(TextFault::Text)
+        return Ok(found);
     }
+    reader.wants(reader.left().saturating_add(1), Wanted::More);
+    Err(TextFault::Text)
 }
 
 /// The line of the portion.

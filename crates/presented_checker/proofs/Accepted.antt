@@ -1,9 +1,7 @@
 -- What is tested of a presentation makes it the misère quotient of its heaps.
-use Rattle.std.proofs.Common.{inl, inr, ◌≡◌, ℕ, zero, suc, ◌<◌, ◌≤◌, true, false, nat_lt, List, length, Some, None, refl, sym, ap, ap₂, ◌∙◌, arith}
-use Rattle.std.specs.Prelude.{slice_index, slice_index_or}
-use Rattle.std.proofs.lemmas.Bool.{le-ltb, cases_order}
-use Rattle.std.proofs.lemmas.List.{get_or_past}
-use native.Mathlib.Decide.{dec_lt}
+use Rattle.std.proofs.Common.{inl, inr, ◌≡◌, ℕ, ◌<◌, List, length, refl, sym, ap, ap₂, ◌∙◌, arith}
+use Rattle.std.specs.Prelude.{slice_index}
+use Rattle.std.proofs.lemmas.Bool.{cases_order}
 use Rattle.misere_theory.specs.Labels.{AreLabels, RepresentsBy}
 use Rattle.presentations.specs.declared.TheConstants.{LETTERS}
 use Rattle.presentations.specs.Vectors.{plus, zeros, only}
@@ -22,27 +20,14 @@ use Rattle.told_labels.specs.Told.{AreTold, mark_of}
 use Rattle.told_labels.specs.Marks.{AreMarksOf, AreAlone}
 use Rattle.told_labels.proofs.Told.{told_labels}
 use Rattle.presented_text.specs.Said.{PresentedSaid, IsInRanges}
-use Rattle.presented_claims.specs.Claims.{listed_word, has_word, heap_word, in_portion, IsElement, claim_of}
+use Rattle.presented_claims.specs.Claims.{heap_word, in_portion, IsElement, claim_of}
 use Rattle.presented_claims.specs.Presents.{Presents}
 use Rattle.finite_presentations.specs.Numbered.{AreNumbered}
-use Rattle.presented_forms.specs.Form.{AreNamed, IsInForm}
+use Rattle.one_presentation.proofs.Words.{heap-is}
+use Rattle.presented_forms.specs.Form.{IsInForm}
 use Rattle.presented_tables.specs.Elements.{element}
 use Rattle.presented_tables.specs.Tested.{PresentedTables, HasWord, AreTestedTables}
 use Rattle.presented_checker.specs.Refused.{HasOrder}
-
--- ---- letters
-
--- a heap of the list has the word that stands there
-of_list : (c : PresentedSaid) → length c.words ≡ c.heaps → (n : ℕ) (w : List ℕ) → listed_word c n ≡ Some w
-    → (has_word c n ≡ true) × (heap_word c n ≡ w)
-of_list c long zero w e = absurd cc
-of_list c long (suc m) w e = elim (dec_lt m (length c.words)) [
-  | no far ↦
-      let none = get_or_past c.words m None (omega (arith, far)) in absurd cc
-  | yes near ↦
-      let within : nat_lt c.heaps (suc m) ≡ false = le-ltb c.heaps (suc m) (omega (arith, near, long)) in
-      (rw (within, e) refl, rw (within, e) refl)
-]
 
 -- ---- products
 
@@ -148,7 +133,7 @@ module _ (c : PresentedSaid) (t : PresentedTables) (tested : AreTestedTables c t
         (told_labels (IsElement c) (claim_of c forms) b t.tables t.elements.bits (marks b d class label)
         (alone b d class label) told)
         (reached LETTERS (heap_word c) (HasWord c) c.letters (omega (arith, ranges.letters.0))
-        (λ i lt. of_list c ranges.words.0 (slice_index c.letters i) (only LETTERS i 1)
+        (λ i lt. heap-is c ranges (slice_index c.letters i) (only LETTERS i 1)
         (in_form.letters.named i lt))
         c.relations tested.elements.converges forms (in_portion c))
 

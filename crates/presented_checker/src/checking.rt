@@ -1,22 +1,27 @@
 //! A check of a presentation from its beginning to its end.
 ghost use Rattle.std.specs.Prelude.{◌≡◌, IfOk, IfErr, length};
+ghost use Rattle.misere_theory.specs.Parts.{IsInfinite};
 ghost use Rattle.kept_checker.specs.Numbers.{KeptPositions, AreFoundTested};
 ghost use Rattle.told_labels.specs.Told.{AreTold};
 ghost use Rattle.presented_text.specs.Said.{PresentedSaid, IsInRanges};
 ghost use Rattle.presented_text.specs.Spelling.{SpellsPresented};
 ghost use Rattle.presented_claims.specs.Presents.{Presents};
 ghost use Rattle.presented_forms.specs.Form.{IsInForm};
-ghost use Rattle.presented_tables.specs.Tested.{AreTestedTables};
+ghost use Rattle.presented_tables.specs.Tested.{AreTestedTables, HasWord};
 ghost use Rattle.presented_tables.specs.Faults.{IsTrueOf};
+ghost use Rattle.class_checker.specs.Endless.{IsEndless};
+ghost use Rattle.infinite_answers.specs.Refusals.{refused};
 ghost use Rattle.presented_checker.specs.Refused.{Fits, HasOrder, IsOrder, IsRight, IsTrueOfBytes};
 
+use crate::breaking::broken;
 use crate::quotient::PresentedQuotient;
-use crate::refusal::PresentedRefusal;
+use allocation::SmallAllocator;
 use class_checker::{is_endless, present_by_classes};
+use infinite_answers::InfiniteRefusal;
 use kept_checker::{NotFound, tested_positions};
 use normal_forms::{Basis, BasisFault};
 use presented_certificate::{PresentedText, TextFault, read};
-use presented_forms::is_in_form;
+use presented_forms::{is_in_form, is_least};
 use presented_tables::{Presented, PresentedTables, TablesFault, tables_of};
 use std::alloc::Allocator;
 use told_labels::{NotTold, told_apart};
@@ -28,9 +33,9 @@ const MOST_RELATIONS: usize = 4096;
 const MOST_KEPT: usize = 65536;
 
 /// The presentation with its relations as a basis.
-fn with_basis<A: Allocator>(text: PresentedText<A>) -> Result<Presented<A>, PresentedRefusal>
+fn with_basis<A: SmallAllocator>(text: PresentedText<A>) -> Result<Presented<A>, InfiniteRefusal<A>>
     ensures same { IfOk result (λ p. p ≡ text) }
-    ensures no { IfErr result (Fits text) }
+    ensures no { IfErr result (λ r. Fits text (refused r)) }
 {
     let PresentedText {
         code,
@@ -43,7 +48,7 @@ fn with_basis<A: Allocator>(text: PresentedText<A>) -> Result<Presented<A>, Pres
         portion,
     } = text;
     if relations.len() > MOST_RELATIONS {
-        return Err(PresentedRefusal::Limit);
+        return Err(InfiniteRefusal::Limit);
     }
     match Basis::new(relations) {
         Ok(basis) => Ok(Presented {
@@ -56,31 +61,31 @@ fn with_basis<A: Allocator>(text: PresentedText<A>) -> Result<Presented<A>, Pres
             cycles,
             portion,
         }),
-        Err(BasisFault::Pair) => Err(PresentedRefusal::Law),
-        Err(BasisFault::Order) => Err(PresentedRefusal::Law),
-        Err(BasisFault::Long) => Err(PresentedRefusal::Limit),
+        Err(BasisFault::Pair) => Err(InfiniteRefusal::Law),
+        Err(BasisFault::Order) => Err(InfiniteRefusal::Law),
+        Err(BasisFault::Long) => Err(InfiniteRefusal::Limit),
     }
 }
 
 /// What a fault of the tables says.
-fn fault_of_tables(fault: TablesFault) -> PresentedRefusal
-    ensures { (c : PresentedSaid) → IsTrueOf c fault → Fits c result }
+fn fault_of_tables<A: SmallAllocator>(fault: TablesFault) -> InfiniteRefusal<A>
+    ensures { (c : PresentedSaid) → IsTrueOf c fault → Fits c (refused result) }
 {
     match fault {
-        TablesFault::Leaves(n) => PresentedRefusal::Part(n),
-        TablesFault::Limit => PresentedRefusal::Limit,
-        TablesFault::Memory => PresentedRefusal::Memory,
-        _ => PresentedRefusal::Undecided,
+        TablesFault::Leaves(n) => InfiniteRefusal::Part(n),
+        TablesFault::Limit => InfiniteRefusal::Limit,
+        TablesFault::Memory => InfiniteRefusal::Memory,
+        _ => InfiniteRefusal::Undecided,
     }
 }
 
 /// The tables of a presentation.
-fn tables<A: Allocator + Copy>(
+fn tables<A: SmallAllocator + Copy>(
     alloc: A,
     said: &Presented<A>,
-) -> Result<PresentedTables<A>, PresentedRefusal>
+) -> Result<PresentedTables<A>, InfiniteRefusal<A>>
     ensures tested { IfOk result (AreTestedTables said.now) }
-    ensures no { IfErr result (Fits said.now) }
+    ensures no { IfErr result (λ r. Fits said.now (refused r)) }
 {
     match tables_of(alloc, said) {
         Ok(tables) => Ok(tables),
@@ -89,28 +94,34 @@ fn tables<A: Allocator + Copy>(
 }
 
 /// Sees that positions of the tables are kept.
-fn keep<A: Allocator + Copy>(alloc: A, tables: &PresentedTables<A>) -> Result<(), PresentedRefusal>
+fn keep<A: SmallAllocator + Copy>(
+    alloc: A,
+    tables: &PresentedTables<A>,
+) -> Result<(), InfiniteRefusal<A>>
     ensures kept { IfOk result (λ _. (k : KeptPositions) × AreFoundTested tables.now.tables k) }
-    ensures no { (c : PresentedSaid) → IfErr result (Fits c) }
+    ensures no { (c : PresentedSaid) → IfErr result (λ r. Fits c (refused r)) }
 {
     match tested_positions(alloc, &tables.tables, MOST_KEPT) {
         Ok(_) => Ok(()),
-        Err(NotFound::Limit) => Err(PresentedRefusal::Limit),
-        Err(NotFound::Memory(_)) => Err(PresentedRefusal::Memory),
-        Err(_) => Err(PresentedRefusal::Undecided),
+        Err(NotFound::Limit) => Err(InfiniteRefusal::Limit),
+        Err(NotFound::Memory(_)) => Err(InfiniteRefusal::Memory),
+        Err(_) => Err(InfiniteRefusal::Undecided),
     }
 }
 
 /// Sees that the elements are told apart.
-fn tell<A: Allocator + Copy>(alloc: A, tables: &PresentedTables<A>) -> Result<(), PresentedRefusal>
+fn tell<A: SmallAllocator + Copy>(
+    alloc: A,
+    tables: &PresentedTables<A>,
+) -> Result<(), InfiniteRefusal<A>>
     ensures told { IfOk result (λ _. AreTold tables.now.tables tables.now.elements.bits) }
-    ensures no { (c : PresentedSaid) → IfErr result (Fits c) }
+    ensures no { (c : PresentedSaid) → IfErr result (λ r. Fits c (refused r)) }
 {
     let elements = &tables.elements;
     match told_apart(alloc, &tables.tables, elements.bits.as_slice()) {
         Ok(()) => Ok(()),
-        Err(NotTold::Memory(_)) => Err(PresentedRefusal::Memory),
-        Err(_) => Err(PresentedRefusal::Undecided),
+        Err(NotTold::Memory(_)) => Err(InfiniteRefusal::Memory),
+        Err(_) => Err(InfiniteRefusal::Undecided),
     }
 }
 
@@ -123,14 +134,14 @@ fn count<A: Allocator>(tables: &PresentedTables<A>) -> usize
 }
 
 /// Tests a presentation with finitely many elements that has the form that is asked for: how many it has, if it is right.
-fn finite_order_of<A: Allocator + Copy>(
+fn finite_order_of<A: SmallAllocator + Copy>(
     alloc: A,
     said: &Presented<A>,
-) -> Result<usize, PresentedRefusal>
+) -> Result<usize, InfiniteRefusal<A>>
     requires ranges { IsInRanges said.now }
     requires in_form { IsInForm said.now }
     ensures yes { IfOk result (λ q. Presents said.now × HasOrder said.now q) }
-    ensures no { IfErr result (Fits said.now) }
+    ensures no { IfErr result (λ r. Fits said.now (refused r)) }
 {
     let tables = tables(alloc, said)?;
     keep(alloc, &tables)?;
@@ -138,15 +149,17 @@ fn finite_order_of<A: Allocator + Copy>(
     Ok(count(&tables))
 }
 
-/// Sees that a presentation with infinitely many elements is right.
-fn present_endless<A: Allocator + Copy>(
+/// Sees that a presentation with infinitely many elements is right, and that infinitely many positions are told apart.
+fn present_endless<A: SmallAllocator + Copy>(
     alloc: A,
     said: &Presented<A>,
-) -> Result<(), PresentedRefusal>
+) -> Result<(), InfiniteRefusal<A>>
     requires ranges { IsInRanges said.now }
     requires in_form { IsInForm said.now }
+    requires endless { IsEndless said.now }
     ensures yes { IfOk result (λ _. Presents said.now) }
-    ensures no { IfErr result (Fits said.now) }
+    ensures infinite { IfOk result (λ _. IsInfinite (HasWord said.now) said.now.code) }
+    ensures no { IfErr result (λ r. Fits said.now (refused r)) }
 {
     match present_by_classes(alloc, said) {
         Ok(()) => Ok(()),
@@ -156,14 +169,14 @@ fn present_endless<A: Allocator + Copy>(
 
 /// Tests a presentation that has the form that is asked for: how many elements it has, if it is right, or none if they are
 /// infinitely many.
-fn order_of<A: Allocator + Copy>(
+fn order_of<A: SmallAllocator + Copy>(
     alloc: A,
     said: &Presented<A>,
-) -> Result<Option<usize>, PresentedRefusal>
+) -> Result<Option<usize>, InfiniteRefusal<A>>
     requires ranges { IsInRanges said.now }
     requires in_form { IsInForm said.now }
     ensures yes { IfOk result (λ q. Presents said.now × IsOrder said.now q) }
-    ensures no { IfErr result (Fits said.now) }
+    ensures no { IfErr result (λ r. Fits said.now (refused r)) }
 {
     if is_endless(said) {
         present_endless(alloc, said)?;
@@ -174,38 +187,47 @@ fn order_of<A: Allocator + Copy>(
 }
 
 /// The quotient that a presentation is, if it is seen to be right.
-fn judged<A: Allocator + Copy>(
+fn judged<A: SmallAllocator + Copy>(
     alloc: A,
     text: PresentedText<A>,
-) -> Result<PresentedQuotient<A>, PresentedRefusal>
+) -> Result<PresentedQuotient<A>, InfiniteRefusal<A>>
     requires ranges { IsInRanges text }
     ensures same { IfOk result (λ q. q.said ≡ text) }
     ensures right { IfOk result IsRight }
-    ensures no { IfErr result (Fits text) }
+    ensures no { IfErr result (λ r. Fits text (refused r)) }
 {
     if !is_in_form(&text) {
-        return Err(PresentedRefusal::Undecided);
+        return Err(InfiniteRefusal::Undecided);
     }
+    let least = is_least(&text);
     let said = with_basis(text)?;
-    let order = order_of(alloc, &said)?;
-    Ok(PresentedQuotient::new(said, order))
+    match order_of(alloc, &said) {
+        Ok(order) => {
+            if !least {
+                return Err(InfiniteRefusal::Undecided);
+            }
+            Ok(PresentedQuotient::new(said, order))
+        }
+        Err(InfiniteRefusal::Undecided) => Err(broken(alloc, &said)),
+        Err(refusal) => Err(refusal),
+    }
 }
 
 /// Whether the bytes are a presentation that is right: it is the misère quotient of its heaps, so that normal forms
 /// tell the outcome of each of their positions, and which of them are indistinguishable. Each refusal is true of the
-/// bytes.
-pub fn check_presented<A: Allocator + Copy>(
+/// bytes: `Text`, `Law`, `Outcome`, `Limit`, `Memory`, `Part` or `Undecided`.
+pub fn check_presented<A: SmallAllocator + Copy>(
     alloc: A,
     bytes: &[u8],
-) -> Result<PresentedQuotient<A>, PresentedRefusal>
+) -> Result<PresentedQuotient<A>, InfiniteRefusal<A>>
     // What is accepted is spelled, and right.
     ensures yes { IfOk result (λ q. SpellsPresented bytes.now q.said × IsRight q) }
     // A refusal is true of the bytes.
-    ensures no { IfErr result (IsTrueOfBytes bytes.now) }
+    ensures no { IfErr result (λ r. IsTrueOfBytes bytes.now (refused r)) }
 {
     match read(alloc, bytes) {
         Ok(text) => judged(alloc, text),
-        Err(TextFault::Text) => Err(PresentedRefusal::Text),
-        Err(TextFault::Memory) => Err(PresentedRefusal::Memory),
+        Err(TextFault::Text) => Err(InfiniteRefusal::Text),
+        Err(TextFault::Memory) => Err(InfiniteRefusal::Memory),
     }
 }

@@ -2,12 +2,11 @@
 use Rattle.std.specs.Prelude.{◌≡◌, ◌≤◌, ◌++◌, ℕ, Option, Some, None, Bool, true, false, List, length, codes, decimal}
 use Rattle.octal_code.specs.Text.{code_text}
 use Rattle.certificate_text.specs.declared.TheConstants.{LONGEST_TEXT}
-use Rattle.verdict_texts.specs.Lines.{no_line}
 use Rattle.presented_text.specs.Said.{PresentedSaid}
 use Rattle.presented_text.specs.Spelling.{SpellsPresented}
 use Rattle.presented_checker.specs.Refused.{Kept, IsRight, IsTrueOfBytes}
-use Rattle.presented_checker.specs.declared.refusal.PresentedRefusal.{PresentedRefusal}
-use Rattle.presented_checker.specs.declared.refusal.PresentedRefusal.TheVariants.{Text, Law, Limit, Memory, Part, Undecided}
+use Rattle.infinite_answers.specs.Answers.{Why}
+use Rattle.given_quotients.specs.Told.{IsRefusalText}
 
 -- The line of a presentation that is right: the code, how many elements the quotient has, and the last heap that has a
 -- word of its own.
@@ -30,15 +29,6 @@ line_by c None = endless_line c (length c.relations)
 abbrev pub presented_line : Kept → List ℕ
 presented_line k = line_by k.said k.order
 
--- The line of a refusal. Want of memory has none.
-abbrev pub IsRefusalLine : PresentedRefusal → List ℕ → Type 0
-IsRefusalLine Text text = text ≡ no_line 1 (codes "Text")
-IsRefusalLine Law text = text ≡ no_line 2 (codes "Law")
-IsRefusalLine Limit text = text ≡ no_line 8 (codes "Limit")
-IsRefusalLine Memory text = ⊥
-IsRefusalLine (Part n) text = text ≡ no_line 31 (codes "Part")
-IsRefusalLine Undecided text = text ≡ no_line 33 (codes "Undecided")
-
 -- The bytes are no more than a text has, and begin as those of presentations do.
 abbrev pub BeginsPresented : List ℕ → Type 0
 BeginsPresented bytes =
@@ -49,5 +39,5 @@ BeginsPresented bytes =
 pub data TellsPresented (bytes : List ℕ) : List ℕ → Bool → Type 0 where
   Yes : {text : List ℕ} {accepted : Bool} (k : Kept) → SpellsPresented bytes k.said → IsRight k
       → text ≡ presented_line k → accepted ≡ true → TellsPresented bytes text accepted
-  No : {text : List ℕ} {accepted : Bool} (why : PresentedRefusal) → IsTrueOfBytes bytes why
-      → IsRefusalLine why text → accepted ≡ false → TellsPresented bytes text accepted
+  No : {text : List ℕ} {accepted : Bool} (why : Why) → IsTrueOfBytes bytes why
+      → IsRefusalText why text → accepted ≡ false → TellsPresented bytes text accepted

@@ -1,13 +1,13 @@
 //! What is said of bytes that begin as a presentation does.
 ghost use Rattle.std.specs.Prelude.{◌≡◌, ◌↔◌, ◌++◌, ℕ, List, codes, IfOk, IsTrue};
 ghost use Rattle.std.specs.String.{string_bytes};
-ghost use Rattle.presented_command.specs.Told.{BeginsPresented, IsRefusalLine, TellsPresented, finite_line, endless_line, presented_line};
-ghost use Rattle.verdict_texts.specs.Lines.{no_line};
+ghost use Rattle.presented_command.specs.Told.{BeginsPresented, TellsPresented, finite_line, endless_line, presented_line};
 
 use allocation::Memory;
 use certificate_text::LONGEST_TEXT;
 use command_results::Said;
-use presented_checker::{PresentedQuotient, PresentedRefusal, check_presented};
+use given_quotients::refusal_text;
+use presented_checker::{PresentedQuotient, check_presented};
 use std::alloc::Global;
 
 /// The line of a presentation with finitely many elements.
@@ -44,28 +44,6 @@ fn yes_text(alloc: Global, quotient: &PresentedQuotient) -> Result<String, Memor
     }
 }
 
-/// The line of a no.
-fn no_text(alloc: Global, number: u8, name: &str) -> Result<String, Memory>
-    ensures { IfOk result (λ t. string_bytes t ≡ no_line number name.now) }
-{
-    let text = format!(in alloc; "no {number} {name}\n")?;
-    Ok(text)
-}
-
-/// The line of a refusal. Want of memory has none, and is handed on.
-fn refusal_text(alloc: Global, refusal: PresentedRefusal) -> Result<String, Memory>
-    ensures { IfOk result (λ t. IsRefusalLine refusal (string_bytes t)) }
-{
-    match refusal {
-        PresentedRefusal::Text => no_text(alloc, 1, "Text"),
-        PresentedRefusal::Law => no_text(alloc, 2, "Law"),
-        PresentedRefusal::Limit => no_text(alloc, 8, "Limit"),
-        PresentedRefusal::Memory => Err(Memory),
-        PresentedRefusal::Part(_) => no_text(alloc, 31, "Part"),
-        PresentedRefusal::Undecided => no_text(alloc, 33, "Undecided"),
-    }
-}
-
 /// Whether the bytes begin with the first word of such texts.
 fn has_first_word(bytes: &[u8]) -> bool
     ensures { IsTrue result ↔ ((rest : List ℕ) × (bytes.now ≡ codes "mqp " ++ rest)) }
@@ -80,7 +58,7 @@ pub fn begins_presented(bytes: &[u8]) -> bool
     bytes.len() <= LONGEST_TEXT && has_first_word(bytes)
 }
 
-/// What is said of the bytes: the line of the quotient, or that of a no.
+/// What is said of the bytes: the line of the quotient, or the text of a no.
 pub fn presented_said(alloc: Global, bytes: &[u8]) -> Result<Said, Memory>
     ensures { IfOk result (λ s. TellsPresented bytes.now s.text.items s.succeeds) }
 {

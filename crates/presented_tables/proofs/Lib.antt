@@ -10,3 +10,4 @@ pub mod Places
 pub mod Claimed
 pub mod Filled
 pub mod Mapped
+pub mod Said

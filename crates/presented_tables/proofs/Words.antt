@@ -6,6 +6,7 @@ use Rattle.std.proofs.lemmas.Bool.{cases_lt, cases_Bool}
 use Rattle.presentations.specs.Vectors.{plus, only, bump}
 use Rattle.presentations.proofs.VectorLaws.{cons-same, bump-plus}
 use Rattle.normal_forms.specs.Forms.{IsIn}
+use Rattle.normal_forms.proofs.Words.{plus-at, same-word, length-sum}
 
 pub past : (v : List ℕ) (k : ℕ) → length v ≤ k → slice_index v k ≡ 0
 past [] k le = refl
@@ -41,3 +42,9 @@ other-false v w n = elim (cases_Bool (pointwise nat_eq v w)) [
   | inl holds ↦ absurd (n (same_text v w (sym holds)))
   | inr fails ↦ fails
 ]
+
+-- a word whose exponents are the sums
+pub sum-word : (n : ℕ) (v w s : List ℕ) → length v ≡ n → length w ≡ n → length s ≡ n
+    → ((i : ℕ) → i < n → slice_index s i ≡ slice_index v i + slice_index w i) → s ≡ plus v w
+sum-word n v w s v_long w_long s_long at =
+    same-word n s (plus v w) s_long (length-sum n v w v_long w_long) (λ i lt. at i lt ∙ sym (plus-at v w i))

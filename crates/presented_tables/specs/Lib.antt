@@ -4,3 +4,4 @@ pub mod Beside
 pub mod Numbers
 pub mod Rows
 pub mod Faults
+pub mod Saying

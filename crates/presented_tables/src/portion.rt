@@ -33,8 +33,8 @@ fn exponent_at(cycles: &[LetterCycle], word: &Exponents, i: usize) -> u16
     }
 }
 
-/// The word with each exponent in its first period.
-fn cycled(cycles: &[LetterCycle], word: &Exponents) -> Exponents
+/// The word with each exponent in its first period, of each letter that has a cycle.
+pub fn cycled_word(cycles: &[LetterCycle], word: &Exponents) -> Exponents
     ensures { result ≡ cycled cycles.now word.now }
 {
     let mut made = *word;
@@ -73,5 +73,8 @@ fn is_listed(list: &[Exponents], word: &Exponents) -> bool
 pub fn in_portion<A: Allocator>(p: &Presented<A>, word: &Exponents) -> bool
     ensures { result ≡ in_portion p.now word.now }
 {
-    is_listed(p.portion.as_slice(), &cycled(p.cycles.as_slice(), word))
+    is_listed(
+        p.portion.as_slice(),
+        &cycled_word(p.cycles.as_slice(), word),
+    )
 }

@@ -10,23 +10,12 @@ use crate::acting::number_at;
 use crate::elements::{ListedElements, word_at};
 use crate::portion::{in_portion, is_word};
 use crate::presentation::Presented;
+use crate::products::with_letter;
 use crate::within::is_in;
 use allocation::Memory;
 use normal_forms::Exponents;
 use presentations::LETTERS;
 use std::alloc::Allocator;
-
-/// The word with letter `i` once more, if there is room.
-fn with_letter(word: &Exponents, i: usize) -> Option<Exponents>
-    ensures { IfSome result (λ w. w ≡ plus word.now (only LETTERS i 1)) }
-{
-    if i >= LETTERS {
-        return None;
-    }
-    let mut more = *word;
-    more[i] = word[i].checked_add(1)?;
-    Some(more)
-}
 
 /// Whether letter `i` is seen to take element `x` to element `y`.
 fn takes<A: Allocator>(
