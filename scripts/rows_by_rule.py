@@ -407,7 +407,7 @@ def wanted_at(lines: list[str], at: int) -> str:
     words = [it.split()[0] for it in lines]
     while words[at] in OPTIONAL and words[at + 1] == words[at]:
         at += 1
-    return f'"{words[at + 1 if words[at] in OPTIONAL else at]}"' if at else "mqc, mqi, mqw or table"
+    return f'"{words[at + 1 if words[at] in OPTIONAL else at]}"' if at else "mqc, mqi, mqw, mqp or table"
 
 
 def damaged(lines: list[str], at: int) -> Iterator[tuple[list[str], str]]:

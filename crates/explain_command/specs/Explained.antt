@@ -6,11 +6,13 @@ use Rattle.tracked_text.specs.Said.{Said as MqiSaid}
 use Rattle.tracked_text.specs.Spelling.{Spells as SpellsTracked}
 use Rattle.dominance_text.specs.Said.{DominanceSaid}
 use Rattle.dominance_text.specs.Spelling.{SpellsDominance}
+use Rattle.presented_text.specs.Said.{PresentedSaid}
+use Rattle.presented_text.specs.Spelling.{SpellsPresented}
 use Rattle.own_tables.specs.Tables.{Own}
 use Rattle.own_tables.specs.Texts.{SpellsTable}
 use Rattle.verdict_texts.specs.declared.stream.TheConstants.{MOST_BYTES}
 use Rattle.explain_command.specs.declared.kinds.Kind.{Kind}
-use Rattle.explain_command.specs.declared.kinds.Kind.TheVariants.{Certificate, Tracked, Whole, Table}
+use Rattle.explain_command.specs.declared.kinds.Kind.TheVariants.{Certificate, Tracked, Whole, Presented, Table}
 use Rattle.explain_command.specs.declared.kinds.Seen.{Seen}
 use Rattle.explain_command.specs.declared.kinds.Seen.TheVariants.{Is, Not}
 
@@ -19,6 +21,7 @@ abbrev pub SpellsKind : Kind → List ℕ → Type 0
 SpellsKind Certificate bytes = (c : MqcSaid) × Spells bytes c
 SpellsKind Tracked bytes = (c : MqiSaid) × SpellsTracked bytes c
 SpellsKind Whole bytes = (c : DominanceSaid) × SpellsDominance bytes c
+SpellsKind Presented bytes = (c : PresentedSaid) × SpellsPresented bytes c
 SpellsKind Table bytes = (o : Own) × SpellsTable bytes o
 
 -- whether they are
@@ -36,6 +39,7 @@ abbrev pub kind_line : Kind → List ℕ
 kind_line Certificate = codes "a certificate's text\n"
 kind_line Tracked = codes "the text of a certificate with tracks: misere infinite checks it\n"
 kind_line Whole = codes "the text of a whole game: misere infinite checks it\n"
+kind_line Presented = codes "the text of a presentation: misere verify checks it\n"
 kind_line Table = codes "the text of a table: misere certify reads it\n"
 
 -- The bytes are more than are read, and so no certificate's text.

@@ -2,7 +2,7 @@
 ghost use Rattle.std.specs.Prelude.{◌≡◌, IfOk};
 ghost use Rattle.std.specs.String.{string_bytes};
 ghost use Rattle.explain_command.specs.Explained.{IsAnswerOf, IsSeen, kind_line};
-ghost use Rattle.explain_command.specs.declared.kinds.Kind.TheVariants.{Certificate, Tracked, Whole, Table};
+ghost use Rattle.explain_command.specs.declared.kinds.Kind.TheVariants.{Certificate, Tracked, Whole, Presented, Table};
 
 use crate::stops::Furthest;
 use allocation::Memory;
@@ -18,6 +18,8 @@ pub enum Kind {
     Tracked,
     /// A whole game with a ruling heap, `mqw`.
     Whole,
+    /// A presentation, `mqp`.
+    Presented,
     /// A quotient in a numbering of one's own, `table`.
     Table,
 }
@@ -31,6 +33,7 @@ impl Kind {
             Kind::Certificate => "a certificate's text\n",
             Kind::Tracked => "the text of a certificate with tracks: misere infinite checks it\n",
             Kind::Whole => "the text of a whole game: misere infinite checks it\n",
+            Kind::Presented => "the text of a presentation: misere verify checks it\n",
             Kind::Table => "the text of a table: misere certify reads it\n",
         };
         String::from_str(alloc, line)
@@ -74,6 +77,16 @@ fn is_whole(alloc: Global, reader: &mut Reader<'_>) -> Result<bool, Memory>
     }
 }
 
+fn is_presented(alloc: Global, reader: &mut Reader<'_>) -> Result<bool, Memory>
+    ensures { IfOk result (IsAnswerOf Presented reader.old) }
+{
+    match presented_certificate::read_from(alloc, reader) {
+        Ok(_) => Ok(true),
+        Err(TextFault::Text) => Ok(false),
+        Err(TextFault::Memory) => Err(Memory),
+    }
+}
+
 fn is_table(alloc: Global, reader: &mut Reader<'_>) -> Result<bool, Memory>
     ensures { IfOk result (IsAnswerOf Table reader.old) }
 {
@@ -93,6 +106,7 @@ fn is_of(alloc: Global, kind: Kind, bytes: &[u8], furthest: &mut Furthest) -> Re
         Kind::Certificate => is_certificate(alloc, &mut reader)?,
         Kind::Tracked => is_tracked(alloc, &mut reader)?,
         Kind::Whole => is_whole(alloc, &mut reader)?,
+        Kind::Presented => is_presented(alloc, &mut reader)?,
         Kind::Table => is_table(alloc, &mut reader)?,
     };
     *furthest = furthest.or(bytes, reader.stop());
@@ -112,6 +126,9 @@ pub(crate) fn kind_of(alloc: Global, bytes: &[u8]) -> Result<Seen, Memory>
     }
     if is_of(alloc, Kind::Whole, bytes, &mut furthest)? {
         return Ok(Seen::Is(Kind::Whole));
+    }
+    if is_of(alloc, Kind::Presented, bytes, &mut furthest)? {
+        return Ok(Seen::Is(Kind::Presented));
     }
     if is_of(alloc, Kind::Table, bytes, &mut furthest)? {
         return Ok(Seen::Is(Kind::Table));

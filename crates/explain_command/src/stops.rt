@@ -17,7 +17,7 @@ impl Furthest {
     pub(crate) fn unknown() -> Furthest {
         Furthest {
             at: 0,
-            wanted: Wanted::Words("mqc, mqi, mqw or table"),
+            wanted: Wanted::Words("mqc, mqi, mqw, mqp or table"),
         }
     }
 
