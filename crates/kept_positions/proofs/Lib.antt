@@ -3,4 +3,3 @@ pub mod NoneBad
 pub mod Movable
 pub mod Tested
 pub mod Told
-pub mod Cells

@@ -1,4 +1,3 @@
 pub mod Kept
 pub mod Telling
 pub mod Presented
-pub mod Cells

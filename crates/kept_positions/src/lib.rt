@@ -11,14 +11,13 @@
 //! | `proofs/` | the lemmas, and beside them a folder for each law |
 #![tactic(auto)]
 
-ghost use Rattle.std.specs.Prelude.{◌≡◌, ◌↔◌, ◌++◌, ℕ, Bool, true, List, Contains};
+ghost use Rattle.std.specs.Prelude.{◌≡◌, ◌↔◌, ◌++◌, ℕ, Bool, true, List};
 ghost use Rattle.misere_theory.specs.Games.{IsPosition};
 ghost use Rattle.misere_theory.specs.Parts.{IsPart};
 ghost use Rattle.misere_theory.specs.Labels.{LabelClaim, AreLabels, label_of, says_by, PredictsOutcomes, RepresentsBy};
 ghost use Rattle.kept_positions.specs.Kept.{IsBadBeside, AreKept, AreNeverBad};
 ghost use Rattle.kept_positions.specs.Telling.{AreToldOrLowered};
 ghost use Rattle.kept_positions.specs.Presented.{AreTestedLabels};
-ghost use Rattle.kept_positions.specs.Cells.{Cell, IsInCell, IsCarried};
 
 /// A sum is bad beside a label exactly if each of its two parts is bad beside the product of this label with
 /// the other part's: so all that one part has to know of the other is its label.
@@ -63,18 +62,4 @@ pub fn tested_labels_are_the_quotient<Label>()
         → ((x : Label) → labels x ≡ true
         → (X : List ℕ) × IsPosition (λ n. heaps n ≡ true) X × (label_of c X ≡ x))
         → RepresentsBy (λ x. labels x ≡ true) (λ n. heaps n ≡ true) code c }
-{}
-
-/// A label that takes the base of a cell into another one, and each step there too, takes all labels of the cell
-/// there: so one normal form for each step shows what the label does to infinitely many others.
-pub fn cells_are_carried<Label>()
-    ensures { (labels : Label → Bool) (c : LabelClaim Label) (w : Label) (from to : Cell Label)
-        → AreLabels (λ x. labels x ≡ true) c.one c.times
-        → labels w ≡ true
-        → labels from.base ≡ true
-        → ((d : Label) → Contains from.steps d → labels d ≡ true)
-        → labels to.base ≡ true
-        → ((d : Label) → Contains to.steps d → labels d ≡ true)
-        → IsCarried c w from to
-        → (x : Label) → IsInCell c from x → IsInCell c to (c.times x w) }
 {}

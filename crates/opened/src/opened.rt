@@ -20,16 +20,6 @@ pub struct Opened {
 }
 
 impl Opened {
-    /// Nothing is opened.
-    pub fn closed(alloc: Global) -> Opened
-        ensures { result.handle.value ≡ None }
-    {
-        Opened {
-            full: 0,
-            handle: Handle::none(alloc),
-        }
-    }
-
     /// Takes the quotient out.
     pub fn take(&mut self, alloc: Global) -> Option<Box<Quotient>>
         ensures none { self.new.handle.value ≡ None }

@@ -20,16 +20,6 @@ pub struct OpenedInfinite {
 }
 
 impl OpenedInfinite {
-    /// Nothing is opened.
-    pub fn closed(alloc: Global) -> OpenedInfinite
-        ensures { result.handle.value ≡ None }
-    {
-        OpenedInfinite {
-            full: 0,
-            handle: InfiniteHandle::none(alloc),
-        }
-    }
-
     /// Takes the quotient out.
     pub fn take(&mut self, alloc: Global) -> Option<Box<InfiniteQuotient>>
         ensures none { self.new.handle.value ≡ None }

@@ -39,8 +39,5 @@ WasGivenUp code bounds = WasGivenUpBy HasAsked code bounds
 abbrev pub IsFoundWithin : List ℕ → SolveBounds → Certificate → Type 0
 IsFoundWithin code bounds c = IsFoundBy HasAsked code bounds c
 
-abbrev pub ComesTo : List ℕ → SolveBounds → Option Certificate → Type 0
-ComesTo code bounds found = ComesToBy HasAsked code bounds found
-
 abbrev pub Solves : List ℕ → SolveBounds → List ℕ → Bool → Type 0
 Solves word bounds text found = SolvesBy HasAsked word bounds text found

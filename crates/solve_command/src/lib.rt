@@ -10,4 +10,4 @@ mod told;
 pub use many::{solve_lines, solve_many};
 pub use requests::SolveBounds;
 pub use searches::{Proposing, Searched, Searches};
-pub use solving::{certificate_by, certificate_for, solve, solve_by, solve_bytes};
+pub use solving::{certificate_by, solve, solve_by, solve_bytes};

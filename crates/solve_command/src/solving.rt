@@ -3,7 +3,7 @@ ghost use Rattle.std.specs.Prelude.{◌≡◌, ◌↔◌, IfOk, IfErr, IsErrOf};
 ghost use Rattle.octal_code.specs.Text.{IsCodeText};
 ghost use Rattle.certificate_text.specs.Spelling.{Spells};
 ghost use Rattle.solve_command.specs.Searches.{ComesToBy, FindsBy, SolvesBy, rounds_lines};
-ghost use Rattle.solve_command.specs.Solved.{ComesTo, IsNoCode, IsSolveCause, Solves};
+ghost use Rattle.solve_command.specs.Solved.{IsNoCode, IsSolveCause, Solves};
 
 use crate::search::search;
 use crate::searches::{Proposing, Searched, Searches};
@@ -91,18 +91,7 @@ fn answer<S: Searches>(
 }
 
 /// The certificate of a kind that is aimed at, of at most as many elements as are allowed, if the
-/// search comes to it.
-pub fn certificate_for(
-    alloc: Global,
-    code: &Code,
-    bounds: SolveBounds,
-) -> Result<Option<Certified>, Memory>
-    ensures { IfOk result (ComesTo code.now bounds) }
-{
-    certificate_by(&Proposing, alloc, code, bounds)
-}
-
-/// The same by any search.
+/// search, of any kind, comes to it.
 pub fn certificate_by<S: Searches>(
     by: &S,
     alloc: Global,

@@ -95,12 +95,6 @@ abbrev pub sum_of : ℕ → List (List ℕ) → List ℕ
 sum_of n [] = zeros n
 sum_of n (d ∷ ds) = plus d (sum_of n ds)
 
-pub length-sums : (n : ℕ) (ds : List (List ℕ)) → ((d : List ℕ) → Contains ds d → length d ≡ n) → length (sum_of n ds) ≡ n
-length-sums n [] long = length-zeros n
-length-sums n (d ∷ ds) long =
-    length-sum n d (sum_of n ds) (long d (contains-first d ds))
-    (length-sums n ds (λ e h. long e (contains-rest d ds e h)))
-
 -- ---- a word is its fold, with steps
 
 -- nothing to fold, or a letter that has a whole period more than its threshold

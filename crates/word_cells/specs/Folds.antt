@@ -2,7 +2,6 @@
 -- threshold stands for all that are larger by whole periods. So finitely many words stand for all. This project's own.
 use Rattle.std.specs.Prelude.{◌≡◌, ℕ, zero, suc, ◌*◌, ◌<◌, ◌≤◌, nat_lt, if◌then◌else◌, List, [], ◌∷◌, length, slice_index, All}
 use Rattle.presentations.specs.Vectors.{only}
-use Rattle.kept_positions.specs.Cells.{Cell}
 
 -- the threshold and the period of a letter, none for those behind the list
 abbrev pub at_letter : List (ℕ × ℕ) → ℕ → ℕ × ℕ
@@ -31,7 +30,3 @@ steps_from n i [] word = []
 steps_from n i (c ∷ cs) word =
     if nat_lt (slice_index word i) c.0 then steps_from n (suc i) cs word
     else only n i c.1 ∷ steps_from n (suc i) cs word
-
--- All words that differ from one by whole periods of letters of which it has as many as the threshold.
-abbrev pub cell_of : ℕ → List (ℕ × ℕ) → List ℕ → Cell (List ℕ)
-cell_of n folds word = record { base = word; steps = steps_from n 0 folds word }
