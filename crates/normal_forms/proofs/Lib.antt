@@ -6,3 +6,4 @@ pub mod Sides
 pub mod Confluence
 pub mod Products
 pub mod Finite
+pub mod Known

@@ -1,2 +1,3 @@
 pub mod Reductions
 pub mod Forms
+pub mod Known

@@ -1,5 +1,5 @@
 //! Relations by which each word has one normal form.
-ghost use Rattle.std.specs.Prelude.{◌≡◌, ◌<◌, ◌≤◌, ◌↔◌, MatchOption, IsTrue, IfOk, Err};
+ghost use Rattle.std.specs.Prelude.{◌≡◌, ◌<◌, ◌≤◌, ◌↔◌, MatchOption, IsTrue, IfOk, IfSome, Err};
 ghost use Rattle.presentations.specs.declared.TheConstants.{LETTERS};
 ghost use Rattle.relations.specs.Bases.{letter_count};
 ghost use Rattle.normal_forms.specs.declared.TheConstants.{MOST_LETTERS};
@@ -10,27 +10,32 @@ use crate::MOST_LETTERS;
 use crate::fault::BasisFault;
 use crate::pairs::{are_oriented, are_short, do_pairs_join};
 use crate::reducing::{first_rule, letter_count, reduced};
+use crate::remembering::KnownForms;
 use crate::rule::{Exponents, Rule};
+use allocation::Memory;
 use presentations::LETTERS;
 use std::alloc::{Allocator, Global};
 use std::marker::Model;
 
-/// Relations that lead down and whose critical pairs join.
+/// Relations that lead down and whose critical pairs join, and elements by which words are reduced faster, if there are any.
 #[derive(Drop)]
 pub struct Basis<A: Allocator = Global> {
     rules: Vec<Rule, A>,
+    known: Option<KnownForms<A>>,
 }
 
 impl<A: Allocator> Model for Basis<A> {
     ghost use Rattle.std.specs.Prelude.{ℕ, List};
     ghost use Rattle.presentations.specs.declared.TheConstants.{LETTERS};
     ghost use Rattle.normal_forms.specs.Reductions.{AreConvergent};
+    ghost use Rattle.normal_forms.specs.Known.{AreKnown};
+    ghost use Rattle.std.specs.Prelude.{IfSome};
 
     ghost Value = { List (List ℕ × List ℕ) };
 
     ghost view = { λ b. b.rules.items };
 
-    ghost invariant = { λ b. AreConvergent LETTERS b.rules.items };
+    ghost invariant = { λ b. AreConvergent LETTERS b.rules.items × IfSome b.known (λ k. AreKnown b.rules.items k) };
 }
 
 impl<A: Allocator> Basis<A> {
@@ -51,7 +56,7 @@ impl<A: Allocator> Basis<A> {
         if !do_pairs_join(rules.as_slice()) {
             return Err(BasisFault::Pair);
         }
-        Ok(Basis { rules })
+        Ok(Basis { rules, known: None })
     }
 
     /// The relations.
@@ -81,6 +86,37 @@ impl<A: Allocator> Basis<A> {
         if letter_count(word) > MOST_LETTERS {
             return None;
         }
+        if let Some(form) = self.known_form(word) {
+            return Some(form);
+        }
         Some(reduced(self.rules.as_slice(), word))
+    }
+
+    /// The normal form of a word, if it is found by the elements that are known.
+    fn known_form(&self, word: &Exponents) -> Option<Exponents>
+        ensures { IfSome result (λ form. IsNormalForm LETTERS self.now word.now form) }
+    {
+        match &self.known {
+            Some(known) => known.form(self.rules.as_slice(), word),
+            None => None,
+        }
+    }
+}
+
+impl<A: Allocator + Copy> Basis<A> {
+    /// The same relations, by which words in the first letters are reduced faster: about so many elements are written down,
+    /// those of the fewest letters, and what each becomes with a letter more.
+    ///
+    /// # Errors
+    ///
+    /// A growth was refused; the relations are gone then.
+    pub fn remembering(self, alloc: A, letters: usize, most: usize) -> Result<Basis<A>, Memory>
+        ensures { IfOk result (λ b. b ≡ self) }
+    {
+        let known = KnownForms::of(alloc, self.rules.as_slice(), letters, most)?;
+        Ok(Basis {
+            rules: self.rules,
+            known,
+        })
     }
 }

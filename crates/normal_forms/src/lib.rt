@@ -13,12 +13,16 @@ pub const MOST_LEFT_LETTERS: u32 = 32767;
 mod basis;
 mod fault;
 mod laws;
+mod letters;
+mod listing;
 mod pairs;
 mod reducing;
+mod remembering;
 mod rule;
 
 pub use basis::Basis;
 pub use fault::BasisFault;
 pub use laws::{elements_are_a_monoid, forms_are_unique, powers_bound, words_have_forms};
+pub use letters::{is_word, with_letter};
 pub use reducing::letter_count;
 pub use rule::{Exponents, Rule};

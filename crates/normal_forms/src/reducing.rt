@@ -20,13 +20,11 @@ pub fn letter_count(word: &Exponents) -> u32
     count
 }
 
-/// Whether the first word is in the second one. The last letters, which are the rarest, are looked at
-/// first.
+/// Whether the first word is in the second one.
 pub fn divides(left: &Exponents, word: &Exponents) -> bool
     ensures { IsTrue result ↔ Divides LETTERS left.now word.now }
 {
-    for k in 0..LETTERS {
-        let i = LETTERS - 1 - k;
+    for i in 0..LETTERS {
         if left[i] > word[i] {
             return false;
         }

@@ -1,10 +1,9 @@
 -- Words of so many exponents, exponent by exponent.
 use Rattle.std.proofs.Common.{◌≡◌, ℕ, zero, suc, ◌+◌, ◌<◌, ◌≤◌, List, [], ◌∷◌, length, refl, sym, ap, ◌∙◌, arith, inl, inr}
-use Rattle.std.specs.Prelude.{slice_index, slice_set, nat_eq, true, false}
+use Rattle.std.specs.Prelude.{slice_index, nat_eq, true, false}
 use Rattle.std.specs.Cmp.Lexicographic.{pointwise, same_text, other_text}
 use Rattle.std.proofs.lemmas.Bool.{cases_lt, cases_Bool}
-use Rattle.presentations.specs.Vectors.{plus, only, bump}
-use Rattle.presentations.proofs.VectorLaws.{cons-same, bump-plus}
+use Rattle.presentations.specs.Vectors.{plus}
 use Rattle.normal_forms.specs.Forms.{IsIn}
 use Rattle.normal_forms.proofs.Words.{plus-at, same-word, length-sum}
 
@@ -12,16 +11,6 @@ pub past : (v : List ℕ) (k : ℕ) → length v ≤ k → slice_index v k ≡ 0
 past [] k le = refl
 past (x ∷ v) zero le = absurd (omega (arith, le))
 past (x ∷ v) (suc k) le = past v k (omega (arith, le))
-
-set-bump : (v : List ℕ) (i : ℕ) → i < length v → slice_set v i (slice_index v i + 1) ≡ bump v i
-set-bump [] i lt = absurd (omega (arith, lt))
-set-bump (x ∷ v) zero lt = refl
-set-bump (x ∷ v) (suc i) lt = cons-same refl (set-bump v i (omega (arith, lt)))
-
-pub set-plus : (v : List ℕ) (n i x : ℕ) → length v ≡ n → i < n → x ≡ slice_index v i + 1
-    → slice_set v i x ≡ plus v (only n i 1)
-set-plus v n i x l lt e =
-    ap (slice_set v i) e ∙ set-bump v i (omega (arith, l, lt)) ∙ sym (bump-plus v n i l lt)
 
 -- a word all of whose exponents were looked at
 pub in-all : (letters n : ℕ) (v : List ℕ) → length v ≡ n

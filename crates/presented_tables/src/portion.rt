@@ -6,7 +6,7 @@ ghost use Rattle.std.specs.Cmp.Lexicographic.{pointwise};
 ghost use Rattle.presented_claims.specs.Claims.{cycled_exponent, cycled, in_portion};
 
 use crate::presentation::Presented;
-use normal_forms::Exponents;
+use normal_forms::{Exponents, is_word};
 use presentations::LETTERS;
 use presented_text::LetterCycle;
 use std::alloc::Allocator;
@@ -42,18 +42,6 @@ pub fn cycled_word(cycles: &[LetterCycle], word: &Exponents) -> Exponents
         made[i] = exponent_at(cycles, word, i);
     }
     made
-}
-
-/// Whether the words are the same.
-pub fn is_word(v: &Exponents, w: &Exponents) -> bool
-    ensures { IsTrue result ↔ (v.now ≡ w.now) }
-{
-    for i in 0..LETTERS {
-        if v[i] != w[i] {
-            return false;
-        }
-    }
-    true
 }
 
 /// Whether the word is in the list.

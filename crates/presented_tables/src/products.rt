@@ -1,7 +1,7 @@
 //! Products of words.
 ghost use Rattle.std.specs.Prelude.{◌≡◌, IfSome};
 ghost use Rattle.presentations.specs.declared.TheConstants.{LETTERS};
-ghost use Rattle.presentations.specs.Vectors.{plus, only};
+ghost use Rattle.presentations.specs.Vectors.{plus};
 
 use normal_forms::Exponents;
 use presentations::LETTERS;
@@ -15,16 +15,4 @@ pub fn product(v: &Exponents, w: &Exponents) -> Option<Exponents>
         sum[i] = v[i].checked_add(w[i])?;
     }
     Some(sum)
-}
-
-/// The word with letter `i` once more, if there is room.
-pub fn with_letter(word: &Exponents, i: usize) -> Option<Exponents>
-    ensures { IfSome result (λ w. w ≡ plus word.now (only LETTERS i 1)) }
-{
-    if i >= LETTERS {
-        return None;
-    }
-    let mut more = *word;
-    more[i] = word[i].checked_add(1)?;
-    Some(more)
 }

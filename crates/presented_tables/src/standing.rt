@@ -8,12 +8,11 @@ ghost use Rattle.presented_tables.specs.Elements.{element, Takes, AreElements};
 
 use crate::acting::number_at;
 use crate::elements::{ListedElements, word_at};
-use crate::portion::{in_portion, is_word};
+use crate::portion::in_portion;
 use crate::presentation::Presented;
-use crate::products::with_letter;
 use crate::within::is_in;
 use allocation::Memory;
-use normal_forms::Exponents;
+use normal_forms::{Exponents, is_word, with_letter};
 use presentations::LETTERS;
 use std::alloc::Allocator;
 

@@ -1,8 +1,6 @@
-use Rattle.std.proofs.Common.{◌≤◌, ◌<◌, ◌-◌, ℕ}
+use Rattle.std.proofs.Common.{◌≤◌, ◌<◌, ℕ}
 use Rattle.std.specs.Prelude.{slice_index}
-use Rattle.presentations.specs.declared.TheConstants.{LETTERS}
 use Rattle.normal_forms.proofs.reducing.divides.Given as goal
 
-abbrev pub invariant-loop-k : goal.invariant-loop-k
-invariant-loop-k l = (i : ℕ) → LETTERS - l.k ≤ i → i < LETTERS
-    → slice_index l.left i ≤ slice_index l.word i
+abbrev pub invariant-loop-i : goal.invariant-loop-i
+invariant-loop-i l = (j : ℕ) → j < l.i → slice_index l.left j ≤ slice_index l.word j

@@ -1,7 +1,7 @@
 use Rattle.std.proofs.Common.{arith}
 use Rattle.presentations.specs.declared.TheConstants.{LETTERS}
-use Rattle.presented_tables.proofs.Words.{set-plus}
-use Rattle.presented_tables.proofs.products.with_letter.Goals as goal
+use Rattle.normal_forms.proofs.Known.{set-plus}
+use Rattle.normal_forms.proofs.letters.with_letter.Goals as goal
 
 pub returns : goal.returns
 returns c =
