@@ -13,6 +13,7 @@ ghost use Rattle.presented_tables.specs.Faults.{IsTrueOf};
 ghost use Rattle.class_tables.specs.Tested.{AreTestedClasses};
 ghost use Rattle.class_checker.specs.Endless.{IsEndless, AreSettled};
 
+use crate::weights::weights_for;
 use allocation::Memory;
 use class_tables::{ClassTables, class_tables_of, folds_for, test_presented};
 use kept_checker::{NotFound, tested_families};
@@ -27,8 +28,8 @@ const MOST_KEPT: usize = 65536;
 /// How many times a position has a heap that is free at it.
 const CAP: usize = 2;
 
-/// How many letters of one kind more than relations the labels have at most.
-const MOST_MORE: u16 = 4;
+/// How many letters of one kind more than relations the labels have: one number after another.
+const MORE: [u16; 6] = [1, 2, 4, 8, 12, 16];
 
 /// Whether the left word has some letter besides letter `i`.
 fn is_free_of(rule: &Rule, i: usize) -> bool
@@ -75,38 +76,7 @@ pub fn is_endless<A: Allocator>(p: &Presented<A>) -> bool
     false
 }
 
-/// So many weights of 1, but `more` for letters `i` and `j`.
-fn weights_of<A: Allocator + Copy>(
-    alloc: A,
-    count: usize,
-    i: usize,
-    j: usize,
-    more: u32,
-) -> Result<Vec<u32, A>, Memory> {
-    let mut weights = Vec::new(alloc);
-    for k in 0..count {
-        weights.push(if k == i || k == j { more } else { 1 })?;
-    }
-    Ok(weights)
-}
-
-/// Whether the classes are seen to be settled by weights of 1, but `more` for one letter or two.
-fn is_settled_by<A: Allocator + Copy>(
-    alloc: A,
-    p: &Presented<A>,
-    v: &ClassTables<A>,
-    i: usize,
-    j: usize,
-    more: u32,
-) -> Result<bool, Memory>
-    requires { AreTestedClasses p.now v.now }
-    ensures { IfOk result (λ b. IsTrue b → AreSettled p.now v.now) }
-{
-    let weights = weights_of(alloc, p.letters.len(), i, j, more)?;
-    Ok(v.are_settled(p, &weights))
-}
-
-/// Whether they are by some of these weights.
+/// Whether the classes are seen to be settled by weights that a search finds.
 fn is_settled<A: Allocator + Copy>(
     alloc: A,
     p: &Presented<A>,
@@ -115,17 +85,10 @@ fn is_settled<A: Allocator + Copy>(
     requires { AreTestedClasses p.now v.now }
     ensures { IfOk result (λ b. IsTrue b → AreSettled p.now v.now) }
 {
-    if is_settled_by(alloc, p, v, 0, 0, 1)? {
-        return Ok(true);
+    match weights_for(alloc, p, v)? {
+        Some(weights) => Ok(v.are_settled(p, &weights)),
+        None => Ok(false),
     }
-    for i in 0..p.letters.len() {
-        for j in 0..i + 1 {
-            if is_settled_by(alloc, p, v, i, j, 2)? {
-                return Ok(true);
-            }
-        }
-    }
-    Ok(false)
 }
 
 /// Sees that the classes are settled.
@@ -157,6 +120,7 @@ fn keep<A: Allocator + Copy>(
     match tested_families(alloc, &v.tables, &v.turns, CAP, MOST_KEPT) {
         Ok(_) => Ok(()),
         Err(NotFound::Memory(_)) => Err(TablesFault::Memory),
+        Err(NotFound::Limit) => Err(TablesFault::Limit),
         Err(_) => Err(TablesFault::Undecided),
     }
 }
@@ -187,8 +151,8 @@ fn present_with<A: Allocator + Copy>(
 /// # Errors
 ///
 /// `Letters`, `Leaves` and `Ended` are true of the presentation, and refuse it. The others say nothing of it: `Undecided`,
-/// if no folds are found by which its classes are told apart and no position breaks the rule; `Limit`, if all folds that
-/// are tried have too many classes; and want of memory.
+/// if no folds are found by which its classes are told apart and the rule is seen to hold; `Limit`, if for all folds that
+/// are tried there are too many classes, or positions to keep; and want of memory.
 pub fn present_by_classes<A: Allocator + Copy>(
     alloc: A,
     p: &Presented<A>,
@@ -201,8 +165,8 @@ pub fn present_by_classes<A: Allocator + Copy>(
 {
     test_presented(p)?;
     let mut is_limit = true;
-    for more in 1..MOST_MORE + 1 {
-        match present_with(alloc, p, more) {
+    for k in 0..MORE.len() {
+        match present_with(alloc, p, MORE[k]) {
             Ok(()) => return Ok(()),
             Err(TablesFault::Undecided) => is_limit = false,
             Err(TablesFault::Limit) => {}

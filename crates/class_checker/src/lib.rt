@@ -3,5 +3,6 @@
 #![tactic(auto)]
 
 mod checking;
+mod weights;
 
 pub use checking::{is_endless, present_by_classes};

@@ -3,9 +3,8 @@ ghost use Rattle.std.specs.Prelude.{◌≡◌, ◌<◌, IfSome, length};
 ghost use Rattle.class_tables.specs.Classes.{word_at};
 
 use allocation::Memory;
-use normal_forms::Exponents;
+use normal_forms::{Exponents, is_word};
 use presentations::LETTERS;
-use presented_tables::is_word;
 use std::alloc::{Allocator, Global};
 use std::cmp::Ordering;
 use std::marker::Model;

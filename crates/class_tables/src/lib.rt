@@ -15,9 +15,11 @@ mod steps;
 mod tables;
 mod thresholds;
 mod turning;
+mod untold;
 mod weighing;
 
 pub use classes::ListedWords;
 pub use lists::{ClassLists, Folds};
 pub use raising::folds_for;
 pub use tables::{ClassTables, class_tables_of, test_presented};
+pub use untold::UntoldPairs;

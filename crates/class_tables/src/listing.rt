@@ -8,9 +8,9 @@ ghost use Rattle.word_cells.specs.Folds.{HavePeriods};
 ghost use Rattle.class_tables.specs.Classes.{word_at, IsThere, AreClasses};
 
 use crate::classes::ListedWords;
-use normal_forms::Exponents;
+use normal_forms::{Exponents, is_word, with_letter};
 use presentations::LETTERS;
-use presented_tables::{Presented, TablesFault, cycled_word, is_in, is_word, with_letter};
+use presented_tables::{Presented, TablesFault, cycled_word, is_in};
 use presented_text::LetterCycle;
 use std::alloc::Allocator;
 

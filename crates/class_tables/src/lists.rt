@@ -55,7 +55,7 @@ pub struct Folds<A: Allocator = Global> {
 }
 
 /// The most classes of a list.
-pub(crate) const MOST_CLASSES: usize = 4096;
+pub(crate) const MOST_CLASSES: usize = 16384;
 
 /// The labels: all elements that are their own folds.
 fn labels_of<A: Allocator + Copy>(

@@ -259,7 +259,7 @@ fn first_in_the_way<A: Allocator>(
 }
 
 /// The most that classes, words and relations come to, multiplied, in one look.
-const MOST_LOOKS: usize = 1 << 26;
+const MOST_LOOKS: usize = 1 << 34;
 
 /// Whether so many classes, words and relations come to more.
 fn is_too_much(classes: usize, words: usize, relations: usize) -> bool {

@@ -33,7 +33,12 @@ fn runs_on(folds: &[LetterCycle], a: &Exponents, j: usize) -> bool
 }
 
 /// The mark of the image of class `x` beside label `w`.
-fn mark<A: Allocator>(t: &LabelTables<A>, bits: &[bool], w: usize, x: usize) -> Option<bool>
+pub(crate) fn mark<A: Allocator>(
+    t: &LabelTables<A>,
+    bits: &[bool],
+    w: usize,
+    x: usize,
+) -> Option<bool>
     ensures { IfSome result (λ b. b ≡ mark_of t.now bits.now w x) }
 {
     let image = *t.images.get(w.checked_mul(t.classes)?.checked_add(x)?)?;
@@ -226,7 +231,7 @@ fn weight_of_both(weights: &[u32], v: &Exponents, w: &Exponents) -> Option<u64>
 }
 
 /// Whether label `w` is seen to lead classes `x` and `y` to lighter words that are never the same.
-fn lowers<A: Allocator>(
+pub(crate) fn lowers<A: Allocator>(
     p: &Presented<A>,
     l: &ClassLists<A>,
     weights: &[u32],
@@ -319,7 +324,7 @@ fn is_alone<A: Allocator>(l: &ClassLists<A>, x: usize) -> bool
 }
 
 /// Whether class `x` is seen to have one word, or to be lowered by some label.
-fn is_class_settled<A: Allocator>(
+pub(crate) fn is_class_settled<A: Allocator>(
     p: &Presented<A>,
     l: &ClassLists<A>,
     weights: &[u32],

@@ -162,14 +162,13 @@ fn label_tables<A: Allocator + Copy>(
     })
 }
 
-/// The most that pairs of classes, labels and relations come to, multiplied, in one look: some minutes of work.
+/// The most that classes, labels and relations come to, multiplied: about a minute of work.
 const MOST_WORK: u64 = 1 << 34;
 
 /// Whether what the tables would take is more than that.
 fn is_too_much(classes: usize, labels: usize, relations: usize) -> bool {
-    let pairs = (classes as u64).saturating_mul(classes as u64);
-    let looks = pairs.saturating_mul(labels as u64);
-    looks.saturating_mul((relations as u64).saturating_add(1)) > MOST_WORK
+    let images = (classes as u64).saturating_mul(labels as u64);
+    images.saturating_mul((relations as u64).saturating_add(1)) > MOST_WORK
 }
 
 /// The tables of a presentation by classes, with such folds.

@@ -15,9 +15,10 @@ use crate::listing::classes_of;
 use crate::lists::{ClassLists, MOST_CLASSES};
 use crate::rows::size_at;
 use crate::thresholds::{are_finer, are_folds};
+use allocation::Memory;
 use kept_checker::{ClassTurns, LabelTables};
-use normal_forms::Exponents;
-use presented_tables::{HeapNumbers, Presented, TablesFault, cycled_word, is_word};
+use normal_forms::{Exponents, is_word};
+use presented_tables::{HeapNumbers, Presented, TablesFault, cycled_word};
 use presented_text::LetterCycle;
 use std::alloc::{Allocator, Global};
 use std::marker::Model;
@@ -102,49 +103,72 @@ fn class_of<A: Allocator>(l: &ClassLists<A>, f: &FineClasses<A>, k: usize) -> Op
     first_place(&l.classes, &cycled_word(&l.folds, class))
 }
 
-/// Marks where the heap of number `g` takes the classes: an entry for each two of them.
-fn mark_taken<A: Allocator>(
+/// The number, or the largest there is.
+fn small(x: usize) -> u32 {
+    x.min(u32::MAX as usize) as u32
+}
+
+/// Where the heap of number `g` takes the classes: a class and one to which it is taken, in order. Nothing is promised of
+/// it.
+fn takes<A: Allocator + Copy>(
+    alloc: A,
     p: &Presented<A>,
     l: &ClassLists<A>,
     s: &HeapNumbers<A>,
     f: &FineClasses<A>,
     g: usize,
-    marks: &mut [bool],
-) -> Option<()>
+) -> Result<Vec<(u32, u32), A>, TablesFault>
     requires lists { AreLists p.now l.now }
     requires fine { AreFine p.now l.now f.now }
+    ensures fault { IfErr result (λ f. IsTrueOf p.now f) }
 {
-    for m in marks.iter_mut() {
-        *m = false;
-    }
+    let mut pairs = Vec::new(alloc);
     for k in 0..f.classes.len() {
-        let z = taken(p, l, s, f, k, g)?;
-        let x = class_of(l, f, k)?;
-        let entry = x.checked_mul(l.classes.len())?.checked_add(z)?;
-        if entry < marks.len() {
-            marks[entry] = true;
-        }
+        let Some(x) = class_of(l, f, k) else {
+            return Err(TablesFault::Undecided);
+        };
+        let Some(z) = taken(p, l, s, f, k, g) else {
+            return Err(TablesFault::Undecided);
+        };
+        pairs.push((small(x), small(z)))?;
     }
-    Some(())
+    pairs.sort_unstable();
+    Ok(pairs)
 }
 
-/// Adds a row to the list: where the marks say that a heap takes the classes.
+/// Adds the classes to which class `x` is taken, by the pairs from number `from` on, and says where those of the next class
+/// begin.
+fn add_class<A: Allocator>(
+    turns: &mut ClassTurns<A>,
+    pairs: &[(u32, u32)],
+    from: usize,
+    x: usize,
+) -> Result<usize, Memory> {
+    let first = small(turns.onto.len());
+    turns.first.push(first)?;
+    let mut last = None;
+    for k in from..pairs.len() {
+        let (class, onto) = pairs[k];
+        if class as usize != x {
+            return Ok(k);
+        }
+        if last != Some(onto) {
+            turns.onto.push(onto)?;
+        }
+        last = Some(onto);
+    }
+    Ok(pairs.len())
+}
+
+/// Adds a row to the list: where the pairs say that a heap takes the classes.
 fn add_row<A: Allocator>(
-    p: &Presented<A>,
     turns: &mut ClassTurns<A>,
     count: usize,
-    marks: &[bool],
-) -> Result<(), TablesFault>
-    ensures { IfErr result (λ f. IsTrueOf p.now f) }
-{
+    pairs: &[(u32, u32)],
+) -> Result<(), Memory> {
+    let mut from = 0;
     for x in 0..count {
-        let first = turns.onto.len().min(u32::MAX as usize) as u32;
-        turns.first.push(first)?;
-        for z in 0..count {
-            if marks.get(x.saturating_mul(count).saturating_add(z)) == Some(&true) {
-                turns.onto.push(z.min(u32::MAX as usize) as u32)?;
-            }
-        }
+        from = add_class(turns, pairs, from, x)?;
     }
     Ok(())
 }
@@ -161,22 +185,15 @@ fn made<A: Allocator + Copy>(
     requires fine { AreFine p.now l.now f.now }
     ensures fault { IfErr result (λ f. IsTrueOf p.now f) }
 {
-    let count = l.classes.len();
-    let mut marks = Vec::new(alloc);
-    for _ in 0..count.saturating_mul(count) {
-        marks.push(false)?;
-    }
     let mut turns = ClassTurns {
         first: Vec::new(alloc),
         onto: Vec::new(alloc),
     };
     for g in 0..s.sizes.len() {
-        if mark_taken(p, l, s, f, g, &mut marks).is_none() {
-            return Err(TablesFault::Undecided);
-        }
-        add_row(p, &mut turns, count, &marks)?;
+        let pairs = takes(alloc, p, l, s, f, g)?;
+        add_row(&mut turns, l.classes.len(), &pairs)?;
     }
-    let end = turns.onto.len().min(u32::MAX as usize) as u32;
+    let end = small(turns.onto.len());
     turns.first.push(end)?;
     Ok(turns)
 }

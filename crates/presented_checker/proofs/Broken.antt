@@ -17,6 +17,7 @@ pub broken_at : (c : PresentedSaid) → IsInRanges c → AreConvergent LETTERS c
     → IsBrokenAt c c.code X
 broken_at c ranges converges X position breaks = record {
   same = refl;
+  converges = converges;
   position = position;
   breaks =
       λ forms.

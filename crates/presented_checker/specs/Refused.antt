@@ -46,9 +46,10 @@ pub record IsRight (k : Kept) : Type 0 where
   pub order : IsOrder k.said k.order
 
 -- What is said of the positions of this code breaks the rule of misère outcomes at the position X of heaps that have words: so
--- it is wrong of X, or of one of its options.
+-- it is wrong of X, or of one of its options. (By convergent relations each word has just one normal form.)
 pub record IsBrokenAt (c : PresentedSaid) (code X : List ℕ) : Type 0 where
   pub same : code ≡ c.code
+  pub converges : AreConvergent LETTERS c.relations
   pub position : IsPosition (HasWord c) X
   pub breaks : (forms : NormalForms LETTERS c.relations) → BreaksRule code (says_by (claim_of c forms)) X
 

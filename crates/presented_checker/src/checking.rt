@@ -32,8 +32,45 @@ const MOST_RELATIONS: usize = 4096;
 /// The most positions that are kept.
 const MOST_KEPT: usize = 65536;
 
+/// How many elements are written down for each relation, and how many at most.
+const ELEMENTS_EACH: usize = 64;
+
+const MOST_ELEMENTS: usize = 16384;
+
+/// The most that elements, letters and relations come to then, multiplied.
+const MOST_LOOKS: usize = 1 << 27;
+
+/// How many elements are written down.
+fn known_elements(relations: usize, letters: usize) -> usize {
+    let relations = relations.saturating_add(1);
+    let each = letters.saturating_mul(relations);
+    relations
+        .saturating_mul(ELEMENTS_EACH)
+        .min(MOST_ELEMENTS)
+        .min(MOST_LOOKS.checked_div(each).unwrap_or(MOST_ELEMENTS))
+}
+
+/// The basis with elements written down, by which words are reduced faster.
+fn remembering<A: SmallAllocator + Copy>(
+    alloc: A,
+    basis: Basis<A>,
+    letters: usize,
+) -> Result<Basis<A>, InfiniteRefusal<A>>
+    ensures same { IfOk result (λ b. b ≡ basis) }
+    ensures no { (c : PresentedSaid) → IfErr result (λ r. Fits c (refused r)) }
+{
+    let most = known_elements(basis.rules().len(), letters);
+    match basis.remembering(alloc, letters, most) {
+        Ok(basis) => Ok(basis),
+        Err(_) => Err(InfiniteRefusal::Memory),
+    }
+}
+
 /// The presentation with its relations as a basis.
-fn with_basis<A: SmallAllocator>(text: PresentedText<A>) -> Result<Presented<A>, InfiniteRefusal<A>>
+fn with_basis<A: SmallAllocator + Copy>(
+    alloc: A,
+    text: PresentedText<A>,
+) -> Result<Presented<A>, InfiniteRefusal<A>>
     ensures same { IfOk result (λ p. p ≡ text) }
     ensures no { IfErr result (λ r. Fits text (refused r)) }
 {
@@ -51,16 +88,19 @@ fn with_basis<A: SmallAllocator>(text: PresentedText<A>) -> Result<Presented<A>,
         return Err(InfiniteRefusal::Limit);
     }
     match Basis::new(relations) {
-        Ok(basis) => Ok(Presented {
-            code,
-            heaps,
-            period,
-            letters,
-            words,
-            basis,
-            cycles,
-            portion,
-        }),
+        Ok(basis) => {
+            let basis = remembering(alloc, basis, letters.len())?;
+            Ok(Presented {
+                code,
+                heaps,
+                period,
+                letters,
+                words,
+                basis,
+                cycles,
+                portion,
+            })
+        }
         Err(BasisFault::Pair) => Err(InfiniteRefusal::Law),
         Err(BasisFault::Order) => Err(InfiniteRefusal::Law),
         Err(BasisFault::Long) => Err(InfiniteRefusal::Limit),
@@ -200,7 +240,7 @@ fn judged<A: SmallAllocator + Copy>(
         return Err(InfiniteRefusal::Undecided);
     }
     let least = is_least(&text);
-    let said = with_basis(text)?;
+    let said = with_basis(alloc, text)?;
     match order_of(alloc, &said) {
         Ok(order) => {
             if !least {
