@@ -140,6 +140,19 @@ uint32_t misere_solve_why(const uint8_t *code, size_t length, uint32_t limit, ui
                           uint32_t aim, uint32_t heaps, uint32_t order, uint8_t *told, size_t room,
                           uint64_t *count);
 
+/* The last heap up to which a search for an infinite quotient goes, if nobody asks for more or less. */
+#define MISERE_INFINITE_HEAPS 64
+
+/* Looks for a text of an infinite quotient of the game of a code, as `misere solve CODE --infinite` does: of
+ * the whole game, or else one with tracks of the heaps 1 to some heap up to `heaps`. It writes the text,
+ * which is accepted and which misere_infinite_open opens, and to *count how many bytes it has. With
+ * MISERE_GAVE_UP it writes the line that says how the search was given up, such as "gave up: each part to
+ * heap 64 seems to have a finite quotient", with its end. It needs room too; with MISERE_NO_ROOM it writes
+ * *count alone. The limit is 1 to 1000000, the heaps 1 to 1024, the order 2 to 4096. Some searches take a
+ * minute. */
+uint32_t misere_solve_infinite(const uint8_t *code, size_t length, uint32_t limit, uint32_t heaps,
+                               uint32_t order, uint8_t *told, size_t room, uint64_t *count);
+
 /* Certifies a quotient of your own, in any numbering of its elements. The bytes are the text of its
  * table, as `misere certify` reads it. These are its lines, each with its end, and beside them what they
  * say:

@@ -56,6 +56,9 @@ static uint32_t solve(void) {
 static uint32_t solve_why(void) {
     return misere_solve_why((const uint8_t *)"0.4", 3, 1000, 4, MISERE_WHOLE, 2, 8, told.text, sizeof told.text, &told.count);
 }
+static uint32_t solve_infinite(void) {
+    return misere_solve_infinite((const uint8_t *)"0.3", 3, 1000, 2, 8, told.text, sizeof told.text, &told.count);
+}
 static uint32_t certify(void) {
     static const char table[] = "table 1\ncode 0.3\norder 2\nstart 1\nperiod 2\nheaps 0 1\nportion 0\nrow 1 0\nrow 0 1\nend\n";
     return misere_certify((const uint8_t *)table, sizeof table - 1, MISERE_LIMIT, told.text, sizeof told.text, &told.count);
@@ -165,6 +168,7 @@ static const struct {
     {"failure", failure, 1},
     {"solve", solve, 1},
     {"solve_why", solve_why, 1},
+    {"solve_infinite", solve_infinite, 1},
     {"certify", certify, 1},
     {"certify what fails", certify_other, 1},
     {"describe", describe, 1},

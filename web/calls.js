@@ -23,6 +23,8 @@ export const LIMIT = 100000;
 export const MOST = 1 << 22;
 /** How far a search goes, where nobody asks for more or less: its rounds, heaps and elements. */
 export const [ROUNDS, HEAPS, ELEMENTS] = [64, 24, 64];
+/** The last heap up to which a search for an infinite quotient goes, where nobody asks for more or less. */
+export const INFINITE_HEAPS = 64;
 /** The most heaps that a search for a whole quotient looks at: an octal code's certificate can need no more. */
 export const MOST_HEAPS = 8210;
 /** The most elements of a quotient, and those of a whole one that is sought by at most 64 heaps. */
@@ -92,6 +94,7 @@ const INFINITE_CALLS = {
   misere_infinite_outcomes: ["&mut OpenedInfinite", "&[u64]", "&[u64]", "&mut [u32]"],
   misere_infinite_answers: ["&mut OpenedInfinite", "&[u64]", "&[u64]", "&mut [MisereAnswer]"],
   misere_infinite_describe: ["&mut OpenedInfinite", "u32", "&mut [u8]", "&mut u64"],
+  misere_solve_infinite: ["&[u8]", "u32", "u32", "u32", "&mut [u8]", "&mut u64"],
 };
 /** The fields of a MisereAnswer, each a number of 64 bits. */
 const FIELDS = ["kind", "heap", "first", "second", "third"];
@@ -175,6 +178,15 @@ function answersOf(told) {
  */
 function isSame(one, other) {
   return one.length === other.length && one.every((byte, at) => byte === other[at]);
+}
+
+/**
+ * Why a search was given up: the second of its two lines, or behind the words of its one line.
+ * @param {string} text
+ */
+function whyOf(text) {
+  const [first, second] = text.split("\n");
+  return second || first.replace("gave up: ", "");
 }
 
 /** The calls, over one instance of the module. */
@@ -278,9 +290,20 @@ export class Misere {
     return this.#text("misere_solve_why", [new TextEncoder().encode(code), ...bounds], MOST);
   }
 
-  /** Whether the module has the calls for infinite quotients, which the next five need. */
+  /** Whether the module has the calls for infinite quotients, which the next six need. */
   knowsInfinite() {
     return Object.keys(INFINITE_CALLS).every((it) => it in this.#instance.exports);
+  }
+
+  /**
+   * Looks for an infinite quotient of the game of a code, and tells its text, which is accepted: of the whole game, or
+   * else of the heaps 1 to some heap up to `heaps`. Where the search is given up, `why` of the refusal says how.
+   * @param {string} code
+   * @param {{heaps?: number, order?: number, limit?: number}} search
+   */
+  solveInfinite(code, {heaps = INFINITE_HEAPS, order = MOST_ELEMENTS, limit = LIMIT} = {}) {
+    const bounds = [limit, heaps, order].map(bounded);
+    return this.#text("misere_solve_infinite", [new TextEncoder().encode(code), ...bounds], MOST);
   }
 
   /**
@@ -437,8 +460,7 @@ export class Misere {
     const length = Number(count[0]);
     if (status === NO_ROOM && length > room) return this.#text(name, words, length);
     const text = new TextDecoder().decode(told.subarray(0, length));
-    // (of a search that was given up the second line says why)
-    if (status === GAVE_UP) throw new Refused(status, null, text.split("\n")[1]);
+    if (status === GAVE_UP) throw new Refused(status, null, whyOf(text));
     if (status) throw new Refused(status);
     return text;
   }

@@ -13,6 +13,7 @@
     misere.Catalogue()["Kayles"]           # that of the atlas, by its code or its name
     misere.certify("0.1", [[0, 1], [1, 0]], heaps=[1, 0], portion=[1], period=1)  # one's own, in any numbering
     misere.check_infinite(pathlib.Path("0.354_heaps_5.mqi")).outcome([2, 4] + 7 * [5])  # 'P': no finite one says so
+    misere.solve_infinite("0.26").outcome([2, 10**15])  # 'P', by a text of the whole game
 
 What outcome, value, answer and winning_move give is proved of every position, of any number of heaps of 1 to 10^18 (of
 a partial certificate: of its heaps), and so is what outcomes, values and answers give of many. describe's text is
@@ -48,7 +49,18 @@ from ._faults import (
     Refused,
     WrongType,
 )
-from ._finder import certify, check, check_infinite, series, solve, solve_any, solve_furthest, solve_part, verify
+from ._finder import (
+    certify,
+    check,
+    check_infinite,
+    series,
+    solve,
+    solve_any,
+    solve_furthest,
+    solve_infinite,
+    solve_part,
+    verify,
+)
 from ._infinite import InfiniteOutput, InfiniteQuotient
 from ._library import version
 from ._names import NAMES
@@ -90,6 +102,7 @@ __all__ = [
     "solve",
     "solve_any",
     "solve_furthest",
+    "solve_infinite",
     "solve_part",
     "verify",
     "version",

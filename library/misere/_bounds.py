@@ -24,6 +24,8 @@ MOST_BY_FEW: Final = 256
 MOST_ELEMENTS: Final = 4096
 #: The largest last heap of a part that is sought.
 MOST_PART: Final = 1024
+#: The last heap up to which a search for an infinite quotient goes, where nobody asks for more or less.
+INFINITE_HEAPS: Final = 64
 #: As many bytes are room for any certificate.
 MOST_BYTES: Final = 1 << 22
 #: The largest heap.

@@ -9,6 +9,7 @@ from ._bounds import (
     ELEMENTS,
     FEW_HEAPS,
     HEAPS,
+    INFINITE_HEAPS,
     LARGEST_LIMIT,
     LIMIT,
     MOST_BY_FEW,
@@ -113,6 +114,27 @@ def solve_any(code: str, order: int = MOST_BY_FEW, limit: int = LIMIT, rounds: i
         return solve_furthest(code, order, limit, rounds)
 
 
+def solve_infinite(
+    code: str, heaps: int = INFINITE_HEAPS, order: int = MOST_ELEMENTS, limit: int = LIMIT
+) -> InfiniteQuotient:
+    """An infinite quotient of the game of a code or a name: that of the whole game, if its text is found, or else that of the
+    heaps 1 to some heap up to `heaps`; or it raises NotFound. So does `misere solve CODE --infinite`. Some searches take a
+    minute.
+
+    The heaps are 1 to 1024, the order 2 to 4096, and the limit 1 to 1000000."""
+    code, text = _code_given(code)
+    bounds = {"limit": number_of(limit), "heaps": number_of(heaps), "order": number_of(order)}
+    status, told = told_by(MOST_BYTES, library.misere_solve_infinite, text, len(text), *bounds.values())
+    if status == GAVE_UP:
+        why = told.decode().strip().removeprefix("gave up: ")
+        found_none = NotFound(GAVE_UP, f"no infinite quotient of {code} was found; the reason is: {why}")
+        found_none.bounds, found_none.why = bounds, why
+        raise found_none
+    if status:
+        raise _explained(fault(status), code, PART, bounds)
+    return InfiniteQuotient(told, limit)
+
+
 def series(code: str, order: int = MOST_BY_FEW, limit: int = LIMIT, rounds: int = ROUNDS) -> Iterator[int]:
     """How many elements the quotients of the heaps 1 to n have, for n = 1, 2, .., as far as a search finds them: each number
     is that of a certificate that was checked, or 1 where no move is possible. So does `misere series CODE`."""
@@ -126,10 +148,7 @@ def series(code: str, order: int = MOST_BY_FEW, limit: int = LIMIT, rounds: int 
 
 
 def _found(code: str, aim: int, limit: int, rounds: int, heaps: int, order: int) -> Quotient:
-    if not isinstance(code, str):
-        raise WrongType(NOT_A_CODE, f"a code is a text such as '0.33', and not {code!r}")
-    code = code_of(code)
-    text = code.encode("utf-8", "surrogatepass")
+    code, text = _code_given(code)
     bounds = {
         "limit": number_of(limit),
         "rounds": number_of(rounds),
@@ -143,6 +162,14 @@ def _found(code: str, aim: int, limit: int, rounds: int, heaps: int, order: int)
     if status:
         raise _explained(fault(status), code, aim, bounds)
     return Quotient(told, limit)
+
+
+def _code_given(word: str) -> tuple[str, bytes]:
+    """The code of a name, or else the word, and its bytes."""
+    if not isinstance(word, str):
+        raise WrongType(NOT_A_CODE, f"a code is a text such as '0.33', and not {word!r}")
+    code = code_of(word)
+    return code, code.encode("utf-8", "surrogatepass")
 
 
 def _not_found(code: str, aim: int, bounds: dict[str, int], lines: str) -> NotFound:
@@ -170,7 +197,7 @@ def _out_of_range(aim: int, bounds: dict[str, int]) -> Iterator[str]:
     if aim != FURTHEST:
         ranges["heaps"] = (2, MOST_HEAPS) if aim == WHOLE else (1, MOST_PART)
     for name, (least, most) in ranges.items():
-        if not least <= bounds[name] <= most:
+        if name in bounds and not least <= bounds[name] <= most:
             yield f"{name} is {least} to {most}, and {bounds[name]} isn't"
 
 

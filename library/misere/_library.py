@@ -43,6 +43,7 @@ CALLS: dict[str, list[Any]] = {
     "misere_failure": [*_bytes, _number, _slice, _size, _count],
     "misere_solve": [*_bytes, _number, _number, _number, _number, _number, _slice, _size, _count],
     "misere_solve_why": [*_bytes, _number, _number, _number, _number, _number, _slice, _size, _count],
+    "misere_solve_infinite": [*_bytes, _number, _number, _number, _slice, _size, _count],
     "misere_certify": [*_bytes, _number, _slice, _size, _count],
     "misere_describe": [*_bytes, _number, _number, _number, _slice, _size, _count],
     "misere_open": [*_bytes, _number, _owner],

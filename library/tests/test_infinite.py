@@ -276,8 +276,8 @@ ROWS = [
         "another text of a whole game",
         lambda: misere.check_infinite(Whole.of.certificate.replace(b"code 0.26", b"code 0.3")),
         misere.Refused,
-        33,
-        "33 Undecided: the rule was not seen to hold",
+        7,
+        "7 Outcome: the rule of the code's game fails at a position: [1]",
     ),
     Row(
         "a file's name",
@@ -292,7 +292,32 @@ ROWS = [
     Row("a ray that is none", refused("ray_down_too_short"), misere.Refused, 34, "34 Ray: the claim is right"),
     Row("a wrong outcome", refused("outcome_at_two_and_three"), misere.Refused, 7, "fails at a position: [2, 3]"),
     Row("no entry", lambda: misere.InfiniteCatalogue()["0.33"], misere.Absent, 0, "no entry of '0.33'"),
+    Row(
+        "finite quotients alone",
+        lambda: misere.solve_infinite("0.33", heaps=8),
+        misere.NotFound,
+        13,
+        "no infinite quotient of 0.33 was found; the reason is: each part to heap 8 seems to have a finite quotient",
+    ),
+    Row(
+        "a search of too many heaps",
+        lambda: misere.solve_infinite("0.26", heaps=1025, order=1),
+        misere.NotInRange,
+        15,
+        "order is 2 to 4096, and 1 isn't; heaps is 1 to 1024, and 1025 isn't",
+    ),
+    Row("a search of no code", lambda: misere.solve_infinite("0.260"), misere.NotACode, 12, "'0.260' is none"),
+    Row("a search of no text", lambda: misere.solve_infinite(wrong(26)), misere.WrongType, 12, "and not 26"),
 ]
+
+
+class Searches(unittest.TestCase):
+    def test_infinite_quotients_are_found(self) -> None:
+        self.assertEqual(misere.solve_infinite("0.26"), whole("0.26"))
+        part, known = misere.solve_infinite("0.404"), misere.InfiniteCatalogue()["0.404"]
+        self.assertEqual((part.code, part.last_heap, part.without), ("0.404", 12, known.without))
+        positions = list(itertools.combinations_with_replacement(range(1, 13), 4))
+        self.assertEqual(part.outcomes(positions), known.outcomes(positions))
 
 
 class Faults(unittest.TestCase):

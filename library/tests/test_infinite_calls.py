@@ -32,9 +32,11 @@ RIGHT = (samples / "0.354_heaps_5.mqi").read_bytes()
 WRONG, SHORT = (
     (samples / f"refused/{it}.mqi").read_bytes() for it in ("outcome_at_two_and_three", "ray_down_too_short")
 )
-# A text of a whole game, and one which says that heap 9 never rules
+# A text of a whole game; one which says that heap 9 never rules, so that heap 9 alone is wrong; and one which gives heap
+# 1, of weight 0, a lead: right of each outcome, but no such triple is an element
 WHOLE = (samples / "0.26.mqw").read_bytes()
 UNRULED = WHOLE.replace(b"leads 0 0 0 0 0 0 0 0 1", b"leads 0 0 0 0 0 0 0 0 0")
+LEADING = WHOLE.replace(b"leads 0 0 0 0", b"leads 1 0 0 0")
 
 
 CHECKS = [
@@ -45,7 +47,8 @@ CHECKS = [
     Check("a ray too short", SHORT, LIMIT, 34),
     Check("of a whole game", WHOLE, LIMIT, 0),
     Check("of a whole game, which has no limit", WHOLE, 1, 0),
-    Check("heap 9 never rules", UNRULED, LIMIT, 33),
+    Check("heap 9 never rules", UNRULED, LIMIT, 7),
+    Check("a text that no heap breaks, and no element", LEADING, LIMIT, 33),
     Check("no end of a whole game", WHOLE[:-4], LIMIT, 1),
     Check("another format of whole games", WHOLE.replace(b"mqw 1", b"mqw 2"), LIMIT, 1),
     Check("that of a finite quotient", (samples / "0.33.mqc").read_bytes(), LIMIT, 1),
@@ -68,7 +71,8 @@ FAILURES = [
     Failure("a ray too short", SHORT, 4, 34, UNCOUNTED, [UNTOLD] * 4),
     Failure("at two heaps with room for one", WRONG, 1, 7, 2, [UNTOLD] * 4),
     Failure("at two heaps", WRONG, 4, 7, 2, [2, 3, UNTOLD, UNTOLD]),
-    Failure("heap 9 never rules", UNRULED, 4, 33, UNCOUNTED, [UNTOLD] * 4),
+    Failure("heap 9 never rules", UNRULED, 4, 7, 1, [9, UNTOLD, UNTOLD, UNTOLD]),
+    Failure("a text that no heap breaks, and no element", LEADING, 4, 33, UNCOUNTED, [UNTOLD] * 4),
 ]
 
 

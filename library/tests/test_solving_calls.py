@@ -18,8 +18,11 @@ PART_OF_0_33 = (
     b"mqc 2\ncode 0.33\norder 2\nstart 2\nperiod 0\nphi 1\nportion 1\nwords 0:1\nrow 0 1\nrow 1 0\napart 0\nend\n"
 )
 
-# The limit, the rounds, the aim, the heaps and the order
-Bounds = tuple[int, int, int, int, int]
+# The text of the whole game 0.26
+WHOLE_0_26 = (samples / "0.26.mqw").read_bytes()
+
+# The limit, the rounds, the aim, the heaps and the order; for an infinite quotient the limit, the heaps and the order
+Bounds = tuple[int, ...]
 
 
 class Search(NamedTuple):
@@ -107,6 +110,30 @@ WHYS = [
 ]
 
 
+# Each part of 0.33 has a finite quotient
+UNTIL_8 = b"gave up: each part to heap 8 seems to have a finite quotient\n"
+INFINITE = [
+    Told("a whole game", b"0.26", (LIMIT, 64, 4096), 400, 0, 159, WHOLE_0_26),
+    Told("a whole game by the least bounds", b"0.26", (1, 1, 2), 400, 0, 159, WHOLE_0_26),
+    Told("by the largest", b"0.26", (1000000, 1024, 4096), 400, 0, 159, WHOLE_0_26),
+    Told("just room", b"0.26", (LIMIT, 64, 4096), 159, 0, 159, WHOLE_0_26),
+    Told("room for a byte less", b"0.26", (LIMIT, 64, 4096), 158, 14, 159, b""),
+    Told("finite quotients", b"0.33", (LIMIT, 8, 4096), 400, 13, 61, UNTIL_8),
+    Told("just room for the line", b"0.33", (LIMIT, 8, 4096), 61, 13, 61, UNTIL_8),
+    Told("no room for the line", b"0.33", (LIMIT, 8, 4096), 60, 14, 61, b""),
+    Told("no limit", b"0.26", (0, 64, 4096), 400, 15, UNCOUNTED, b""),
+    Told("a larger limit", b"0.26", (1000001, 64, 4096), 400, 15, UNCOUNTED, b""),
+    Told("no heap", b"0.26", (LIMIT, 0, 4096), 400, 15, UNCOUNTED, b""),
+    Told("more heaps", b"0.26", (LIMIT, 1025, 4096), 400, 15, UNCOUNTED, b""),
+    Told("one element", b"0.26", (LIMIT, 64, 1), 400, 15, UNCOUNTED, b""),
+    Told("more elements", b"0.26", (LIMIT, 64, 4097), 400, 15, UNCOUNTED, b""),
+    Told("a code that ends in 0", b"0.260", (LIMIT, 64, 4096), 400, 12, UNCOUNTED, b""),
+    Told("no byte", b"", (LIMIT, 64, 4096), 400, 12, UNCOUNTED, b""),
+    Told("a byte that is no text", b"\xff", (LIMIT, 64, 4096), 400, 12, UNCOUNTED, b""),
+    Told("no heap for no code", b"0.260", (LIMIT, 0, 4096), 400, 15, UNCOUNTED, b""),
+]
+
+
 def searched(call: str, code: bytes, bounds: Bounds, room: int) -> tuple[int, int, bytes]:
     """The status, the length, and what the room holds."""
     told, count = text(room), ctypes.c_uint64(UNCOUNTED)
@@ -149,3 +176,14 @@ class Searches(unittest.TestCase):
 
     def test_searches_say_why_they_are_given_up(self) -> None:
         self.look_at("misere_solve_why", WHYS)
+
+    def test_infinite_quotients_are_found(self) -> None:
+        self.look_at("misere_solve_infinite", INFINITE)
+
+    def test_parts_with_an_infinite_quotient_are_found(self) -> None:
+        """What is found has the last heap of which no text has fewer, and is accepted."""
+        status, length, told = searched("misere_solve_infinite", b"0.404", (LIMIT, 64, 4096), 4000)
+        self.assertEqual((status, told[:24]), (0, b"mqi 1\ncode 0.404\nheaps 12"[:24]))
+        self.assertEqual(called("misere_check_infinite", told[:length], LIMIT), 0)
+        status, _, told = searched("misere_solve_infinite", b"0.404", (LIMIT, 11, 4096), 4000)
+        self.assertEqual((status, told[:34]), (13, b"gave up: each part to heap 11 seem"))

@@ -46,6 +46,10 @@ const SEARCHES = [
   [/^members$/, "since the check of the likeliest guess met the limit"],
   [/^rounds$/, "since as many guesses were made as are allowed"],
   [/^refused$/, "since the likeliest guess was refused"],
+  [/^(each part to heap \d+ seems to have a finite quotient)$/, "since $1"],
+  [/^(to heap \d+ no shape that was tried is right)$/, "since $1"],
+  [/^to heap (\d+) the work that is allowed was done$/, "since at heap $1 it had done or kept as much as it may"],
+  [/^what was found was refused by the check$/, "since what was found was refused"],
 ];
 
 /**

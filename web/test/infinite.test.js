@@ -2,13 +2,14 @@
 import assert from "node:assert/strict";
 import test from "node:test";
 
-import {Failed, Misere, Refused} from "../calls.js";
+import {Failed, Misere} from "../calls.js";
 import {memberOf} from "../page/infinite/family.js";
 import {infiniteOf, infiniteVerdict} from "../page/infinite/fields.js";
 import {isSaidP, isWhole, tripleOf, wholeOf, wholeVerdict} from "../page/whole/fields.js";
 
 import {bytesOfModule, newMisere} from "./module.js";
 import {fileOf, infinite, numbersFrom, printed, refusedInfinite, sample, told, wholeTexts} from "./setup.js";
+import {linesOfRefusal, verdictPrinted} from "./verdicts.js";
 
 const misere = newMisere();
 const skip = misere.knowsInfinite() ? false : "the module has no calls for infinite quotients";
@@ -21,23 +22,15 @@ function verdictOf(bytes) {
   try {
     misere.checkInfinite(bytes);
   } catch (stop) {
-    if (!(stop instanceof Refused)) throw stop;
-    const [number, name] = stop.message.split(" ");
-    return [`no ${number} ${name}`, ...stop.heaps ? [`rule fails at ${stop.heaps.join(" ") || "0"}`] : []];
+    return linesOfRefusal(stop);
   }
   const text = new TextDecoder().decode(bytes);
   return [isWhole(bytes) ? wholeVerdict(wholeOf(text)) : infiniteVerdict(infiniteOf(text))];
 }
 
-/** @param {Uint8Array} bytes */
-function verdictPrinted(bytes) {
-  const lines = printed("infinite", fileOf(bytes, "x.mqi")).split("\n");
-  return lines.filter((line) => line && !line.startsWith("outcome "));
-}
-
 test("verdict, number and position", {skip}, async (t) => {
   for (const {name, bytes} of [...infinite, ...refusedInfinite, {name: "a finite one", bytes: sample("0.33")}])
-    await t.test(name, () => assert.deepEqual(verdictOf(bytes), verdictPrinted(bytes)));
+    await t.test(name, () => assert.deepEqual(verdictOf(bytes), verdictPrinted("infinite", bytes)));
 });
 
 /**
@@ -78,7 +71,8 @@ const CHANGED = [["", ""], ["code 0.26", "code 0.3"], ["odd 0 1", "odd 1 1"], ["
 test("whole games: verdict and number", {skip}, () => {
   const text = sample("0.26.mqw").toString();
   const texts = [...wholeTexts.map(([, it]) => it), ...CHANGED.map(([was, is]) => text.replace(was, is))];
-  for (const it of texts.map((it) => new TextEncoder().encode(it))) assert.deepEqual(verdictOf(it), verdictPrinted(it));
+  for (const it of texts.map((it) => new TextEncoder().encode(it)))
+    assert.deepEqual(verdictOf(it), verdictPrinted("infinite", it));
 });
 
 test("whole games: outcomes as the three numbers of each heap say, and moves to lost positions", {skip}, () => {
@@ -120,6 +114,31 @@ test("what a certificate says is told as the program shows it", {skip}, () => {
     for (const [output, words] of FORMS)
       assert.equal(misere.describeInfinite(bytes, {output}), printed("infinite", file, "--show", ...words), name);
   }
+});
+
+/**
+ * A code, how far is looked, and the words of the same for the program.
+ * @type {[string, {heaps?: number, order?: number}, string[]][]}
+ */
+const SEARCHES = [
+  ["0.26", {}, []],
+  ["0.404", {}, []],
+  ["0.404", {order: 24}, ["--order", "24"]],
+  ["0.404", {heaps: 11}, ["--heaps", "11"]],
+  ["0.33", {heaps: 8}, ["--heaps", "8"]],
+];
+
+test("searches: the bytes that are found, or why none are", {skip}, () => {
+  for (const [code, search, words] of SEARCHES) {
+    const wanted = printed("solve", code, "--infinite", ...words);
+    const why = wanted.match(/^gave up: (.*)\n$/)?.[1];
+    if (why === undefined)
+      assert.equal(misere.solveInfinite(code, search), wanted, code);
+    else
+      assert.throws(() => misere.solveInfinite(code, search), {status: 13, why});
+  }
+  assert.equal(told(() => misere.solveInfinite("0.260")), "refused 12");
+  assert.equal(told(() => misere.solveInfinite("0.26", {heaps: 0})), "refused 15");
 });
 
 test("base and what is far up have other outcomes", {skip}, () => {

@@ -270,10 +270,11 @@ test("a name is that of a code", () => {
 });
 
 test("an address of a search says what is sought", () => {
-  for (const word of ["0.75", "0.75/8", "0.07:deep", "0.07:furthest:64", "0.07:whole"])
+  for (const word of ["0.75", "0.75/8", "0.07:deep", "0.07:furthest:64", "0.07:whole", "0.31011:infinite:64"])
     assert.equal(soughtWord(soughtOf(word)), word);
   assert.deepEqual(soughtOf("Kayles:deep"), {code: "0.77", aim: "deep", number: 0});
   assert.deepEqual(AIMS.partial.steps(33).at(-1)?.search, {aim: "part", heaps: 33, order: 4096});
+  assert.deepEqual(AIMS.all.steps(0).at(-1)?.search, {aim: "infinite", heaps: 64, order: 4096});
 });
 
 test("the texts of infinite quotients that the page makes again are those of the atlas", async () => {

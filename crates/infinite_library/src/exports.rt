@@ -1,13 +1,15 @@
 //! The calls on infinite quotients.
 ghost use Rattle.std.specs.List.Sorted.{IsNonDecreasing};
-ghost use Rattle.std.specs.Prelude.{◌≡◌, ◌≢◌, ◌≤◌, ◌<◌, ℕ, List, IsPermutation, length, take};
+ghost use Rattle.std.specs.Prelude.{◌≡◌, ◌≢◌, ◌≤◌, ◌<◌, ℕ, Bool, List, true, false, IsPermutation, length, take};
 ghost use Rattle.std.specs.declared.option.Option.TheVariants.{None, Some};
+ghost use Rattle.infinite_library.specs.Found.{IsToldOf, IsUntold, parts};
 ghost use Rattle.infinite_queries.specs.Asked.{AreNoAnswers, AreRefused, AreShown, FailsAt, IsNoAnswer, IsNoAnswerToMany, TellsAnswer, TellsOutcome};
 ghost use Rattle.infinite_texts.specs.Described.{IsOpenedCode, IsOpenedText, IsOpenedUntold};
 ghost use Rattle.opened_infinite.specs.Texts.{kind_of};
 ghost use Rattle.told_answers.specs.Asked.{IsOpened, IsUnopened, IsUnshared};
 ghost use Rattle.told_answers.specs.Many.{TellAll};
 
+use crate::solving::solve;
 use infinite_queries::{
     answer, answers, check, close, failure, kind, open, outcome, outcomes, share,
 };
@@ -221,4 +223,33 @@ pub extern "C" fn misere_infinite_describe(
     ensures untold { result ≢ 0 → result ≢ 14 → count.new ≡ count.old }
 {
     describe(alloc, opened, output, told, count)
+}
+
+/// Looks for a text of an infinite quotient of a code: of its whole game, or else with tracks of the heaps 1 to
+/// at most `heaps`, from 1 to 1024, of an order from 2 to 4096. Tells the text, which `misere_infinite_open`
+/// opens, and how many bytes it has; of a search that was given up the line that says how, which needs
+/// room too. Where there is no room, it tells how many bytes they are alone.
+#[unsafe(no_mangle)]
+pub extern "C" fn misere_solve_infinite(
+    alloc: Global,
+    code: &[u8],
+    limit: u32,
+    heaps: u32,
+    order: u32,
+    told: &mut [u8],
+    count: &mut u64,
+) -> u32
+    ensures found { result ≡ 0
+        → IsToldOf code.now (parts limit heaps order) (take count.new told.new) true }
+    ensures given_up { result ≡ 13
+        → IsToldOf code.now (parts limit heaps order) (take count.new told.new) false }
+    ensures no { result ≢ 0 → result ≢ 13 → result ≢ 14
+        → IsUntold code.now (parts limit heaps order) result }
+    ensures stays { result ≢ 0 → result ≢ 13 → told.new ≡ told.old }
+    ensures room { result ≡ 14 → length told.old < count.new }
+    ensures counts { result ≡ 14 → (text : List ℕ) × (succeeds : Bool)
+        × IsToldOf code.now (parts limit heaps order) text succeeds × (count.new ≡ length text) }
+    ensures untold { result ≢ 0 → result ≢ 13 → result ≢ 14 → count.new ≡ count.old }
+{
+    solve(alloc, code, limit, heaps, order, told, count)
 }

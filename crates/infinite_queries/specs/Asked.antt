@@ -12,7 +12,7 @@ use Rattle.dominance_text.specs.Spelling.{SpellsDominance}
 use Rattle.infinite_answers.specs.Answers.{Why, IsTrueOf, Text, Undecided, Outcome as Fails}
 use Rattle.infinite_answers.specs.Kept.{IsKeptOf}
 use Rattle.infinite_answers.specs.Shown.{IsShown}
-use Rattle.whole_checker.specs.Solved.{IsRefusedWhole, IsSolved}
+use Rattle.whole_checker.specs.Solved.{IsRefutedWhole, IsSolved}
 use Rattle.opened_infinite.specs.Texts.{code_of}
 use Rattle.opened_infinite.specs.declared.text.AcceptedText.{AcceptedText}
 use Rattle.opened_infinite.specs.declared.text.AcceptedText.TheVariants.{Tracks, Whole}
@@ -42,10 +42,12 @@ abbrev pub BeginsWhole : List ℕ → Type 0
 BeginsWhole bytes = (rest : List ℕ) × (bytes ≡ codes "mqw " ++ rest)
 
 -- The refusal is true of the bytes. With Text they spell no text of either kind. With Undecided they spell one
--- of one of them. Every other one is of a certificate with tracks.
+-- of one of them, and with a position what they spell breaks the rule there. Every other one is of a certificate
+-- with tracks.
 abbrev pub IsTrueOfEither : List ℕ → Why → Type 0
-IsTrueOfEither bytes Text = IsTrueOf bytes Text × IsRefusedWhole bytes Text
-IsTrueOfEither bytes Undecided = IsTrueOf bytes Undecided ⊎ IsRefusedWhole bytes Undecided
+IsTrueOfEither bytes Text = IsTrueOf bytes Text × IsRefutedWhole bytes Text
+IsTrueOfEither bytes Undecided = IsTrueOf bytes Undecided ⊎ IsRefutedWhole bytes Undecided
+IsTrueOfEither bytes (Fails code X) = IsTrueOf bytes (Fails code X) ⊎ IsRefutedWhole bytes (Fails code X)
 IsTrueOfEither bytes why = IsTrueOf bytes why
 
 -- The status is the number of a refusal that is true of the bytes.
@@ -54,7 +56,7 @@ AreRefused bytes status = (why : Why) × (status ≡ status_of why) × IsTrueOfE
 
 -- the bytes are refused, truly, since the rule of their code's game fails at this position
 abbrev pub FailsAt : List ℕ → List ℕ → Type 0
-FailsAt bytes X = (code : List ℕ) × IsTrueOf bytes (Fails code X)
+FailsAt bytes X = (code : List ℕ) × IsTrueOfEither bytes (Fails code X)
 
 -- ---- positions
 

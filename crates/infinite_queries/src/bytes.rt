@@ -10,7 +10,7 @@ use opened_infinite::AcceptedText;
 use positions::Position;
 use std::alloc::Global;
 use told_answers::{DONE, OUTCOME, put};
-use whole_checker::check_whole;
+use whole_checker::judge_whole;
 
 /// The number of a refusal.
 fn status(refusal: &InfiniteRefusal) -> u32
@@ -33,7 +33,7 @@ fn whole(alloc: Global, bytes: &[u8]) -> Result<AcceptedText, InfiniteRefusal>
     ensures yes { IfOk result (IsShownBy bytes.now) }
     ensures no { IfErr result (λ r. IsTrueOfEither bytes.now (refused r)) }
 {
-    match check_whole(alloc, bytes) {
+    match judge_whole(alloc, bytes) {
         Ok(game) => Ok(AcceptedText::Whole(game)),
         Err(refusal) => Err(refusal),
     }

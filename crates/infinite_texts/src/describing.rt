@@ -62,7 +62,7 @@ fn text_by(alloc: Global, opened: &mut OpenedInfinite, output: u32) -> Result<Ve
 }
 
 /// Tells how many bytes there are, and puts them in front, where there is room for them.
-fn hand_over(bytes: &[u8], told: &mut [u8], count: &mut u64) -> u32
+pub fn hand_over(bytes: &[u8], told: &mut [u8], count: &mut u64) -> u32
     ensures put { result ≡ 0 → take count.new told.new ≡ bytes.now }
     ensures stays { result ≢ 0 → told.new ≡ told.old }
     ensures room { result ≢ 0 → (result ≡ 14) × (length told.old < count.new) }

@@ -3,4 +3,4 @@
 
 mod describing;
 
-pub use describing::{code, describe};
+pub use describing::{code, describe, hand_over};

@@ -3,4 +3,4 @@
 
 mod saying;
 
-pub use saying::solve_infinite;
+pub use saying::{solve_infinite, solve_infinite_bytes};

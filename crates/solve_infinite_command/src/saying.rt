@@ -77,7 +77,20 @@ pub fn solve_infinite(alloc: Global, word: &str, bounds: PartsBounds) -> Result<
     ensures stops { IfErr result (IsSolveCause word.now) }
     ensures not_a_code { IsErrOf result Stop.NotACode ↔ IsNoCode word.now }
 {
-    let Ok(code) = Code::read(word.as_bytes()) else {
+    solve_infinite_bytes(alloc, word.as_bytes(), bounds)
+}
+
+/// The same of bytes, which may be no text at all.
+pub fn solve_infinite_bytes(
+    alloc: Global,
+    word: &[u8],
+    bounds: PartsBounds,
+) -> Result<Said, Stop<'static>>
+    ensures says { IfOk result (λ s. IsFound word.now bounds s.text.items s.succeeds) }
+    ensures stops { IfErr result (IsSolveCause word.now) }
+    ensures not_a_code { IsErrOf result Stop.NotACode ↔ IsNoCode word.now }
+{
+    let Ok(code) = Code::read(word) else {
         return Err(Stop::NotACode);
     };
     let said = found(alloc, &code, bounds)?;

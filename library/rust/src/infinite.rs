@@ -1,10 +1,12 @@
 //! A certified infinite quotient, and what it is asked.
 
 use crate::answers::{Answer, Outcome};
-use crate::bounds::LIMIT;
+use crate::bounds::{LIMIT, MOST_BYTES};
 use crate::certificate::{Part, read_part};
+use crate::finding::{InfiniteBounds, NotFound};
 use crate::opened::{Infinite, Opened};
-use crate::quotient::{USUAL, told_by};
+use crate::quotient::{USUAL, last_line, status_and_told, told_by};
+use crate::raw;
 use crate::refusal::Refusal;
 use std::fmt;
 use std::sync::Arc;
@@ -40,6 +42,21 @@ impl InfiniteQuotient {
         let opened = Opened::check(&bytes, limit)?;
         let part = read_part(&bytes).ok_or(Refusal::TEXT)?;
         Ok(InfiniteQuotient { opened, bytes, part: Arc::new(part) })
+    }
+
+    /// An infinite quotient of the game of a code, such as `0.26`: that of the whole game, if its text is found, or else that of the heaps 1
+    /// to some heap up to `bounds.heaps`; or why none was found. Some searches take a minute.
+    pub fn solve(code: &str, bounds: InfiniteBounds) -> Result<InfiniteQuotient, NotFound> {
+        let InfiniteBounds { limit, heaps, order } = bounds;
+        let (status, told) = status_and_told(MOST_BYTES, |told, count| {
+            // SAFETY: each pointer stands with the length of its slice, and `count` is borrowed for the call.
+            unsafe { raw::misere_solve_infinite(code.as_ptr(), code.len(), limit, heaps, order, told.as_mut_ptr(), told.len(), count) }
+        });
+        match Refusal(status) {
+            Refusal(0) => Ok(InfiniteQuotient::check(told, limit)?),
+            Refusal::GAVE_UP => Err(NotFound::GaveUp { why: last_line(&told).trim_start_matches("gave up: ").to_owned() }),
+            refusal => Err(NotFound::Refused(refusal)),
+        }
     }
 
     /// A clone, or the refusal where memory is refused.

@@ -34,7 +34,7 @@ mod refusal;
 
 pub use answers::{Answer, Outcome};
 pub use bounds::LIMIT;
-pub use finding::{Aim, Bounds, NotFound};
+pub use finding::{Aim, Bounds, InfiniteBounds, NotFound};
 pub use infinite::{InfiniteOutput, InfiniteQuotient};
 pub use own::{NotCertified, OwnTable};
 pub use quotient::{Output, Quotient};

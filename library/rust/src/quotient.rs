@@ -206,7 +206,7 @@ impl TryFrom<&[u8]> for Quotient {
 }
 
 /// The status and what is told of a call that takes a room for it and says how long it is. It is asked again if the room is too small.
-fn status_and_told(mut room: usize, call: impl Fn(&mut [u8], &mut u64) -> u32) -> (u32, Vec<u8>) {
+pub(crate) fn status_and_told(mut room: usize, call: impl Fn(&mut [u8], &mut u64) -> u32) -> (u32, Vec<u8>) {
     loop {
         let (mut told, mut count) = (vec![0; room], 0);
         let status = call(&mut told, &mut count);
@@ -225,6 +225,6 @@ pub(crate) fn told_by(room: usize, call: impl Fn(&mut [u8], &mut u64) -> u32) ->
 }
 
 /// The last line of a text. Of a search that was given up it is the reason.
-fn last_line(text: &[u8]) -> String {
+pub(crate) fn last_line(text: &[u8]) -> String {
     String::from_utf8_lossy(text).lines().last().unwrap_or_default().to_owned()
 }

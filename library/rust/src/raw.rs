@@ -99,6 +99,16 @@ unsafe extern "C" {
         room: usize,
         count: &mut u64,
     ) -> u32;
+    pub fn misere_solve_infinite(
+        code: *const u8,
+        length: usize,
+        limit: u32,
+        heaps: u32,
+        order: u32,
+        told: *mut u8,
+        room: usize,
+        count: &mut u64,
+    ) -> u32;
     pub fn misere_certify(table: *const u8, length: usize, limit: u32, told: *mut u8, room: usize, count: &mut u64) -> u32;
     pub fn misere_describe(bytes: *const u8, length: usize, limit: u32, output: u32, form: u32, told: *mut u8, room: usize, count: &mut u64) -> u32;
     pub fn misere_open(bytes: *const u8, length: usize, limit: u32, told: &mut Opened) -> u32;

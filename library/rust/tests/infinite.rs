@@ -1,6 +1,6 @@
 //! What the crate tells of samples of infinite quotients, beside the families of docs/INFINITE.md.
 
-use misere::{Answer, InfiniteOutput, InfiniteQuotient, LIMIT, Outcome, Quotient, Refusal};
+use misere::{Answer, InfiniteBounds, InfiniteOutput, InfiniteQuotient, LIMIT, NotFound, Outcome, Quotient, Refusal};
 use std::path::Path;
 use std::thread;
 
@@ -102,6 +102,23 @@ fn refusals_have_their_numbers() {
     assert_eq!(InfiniteQuotient::check(&outcome, LIMIT), Err(Refusal::OUTCOME));
     assert_eq!(misere::infinite_failure(&outcome, LIMIT), Some(vec![2, 3]));
     assert_eq!(misere::infinite_failure(&ray, LIMIT), None);
+}
+
+/// As `misere solve CODE --infinite` finds them.
+#[test]
+fn infinite_quotients_are_found() {
+    let bounds = InfiniteBounds::default();
+    let whole = InfiniteQuotient::solve("0.26", bounds).unwrap();
+    assert_eq!((whole.last_heap(), whole.certificate()), (None, sample("0.26.mqw").as_slice()));
+    let part = InfiniteQuotient::solve("0.404", bounds).unwrap();
+    assert_eq!((part.code(), part.last_heap(), part.without()), ("0.404", Some(12), [].as_slice()));
+    let why = "each part to heap 8 seems to have a finite quotient".to_owned();
+    let few = InfiniteBounds { heaps: 8, ..bounds };
+    assert_eq!(InfiniteQuotient::solve("0.33", few), Err(NotFound::GaveUp { why }));
+    let none = InfiniteBounds { heaps: 0, ..bounds };
+    for (code, bounds, number) in [("0.33", none, 15), ("0.330", bounds, 12)] {
+        assert_eq!(InfiniteQuotient::solve(code, bounds), Err(NotFound::Refused(Refusal(number))));
+    }
 }
 
 #[test]

@@ -1,10 +1,10 @@
 // The searches of one after another, each with its bounds.
 
-import {ELEMENTS, HEAPS, MOST_BY_FEW, MOST_ELEMENTS, MOST_HEAPS, MOST_PART} from "../../calls.js";
+import {ELEMENTS, HEAPS, INFINITE_HEAPS, MOST_BY_FEW, MOST_ELEMENTS, MOST_HEAPS, MOST_PART} from "../../calls.js";
 import {codeOfName} from "../codes.js";
 
 /**
- * @typedef {{aim: "whole" | "part" | "furthest", heaps: number, order: number}} Search
+ * @typedef {{aim: "whole" | "part" | "furthest" | "infinite", heaps: number, order: number}} Search
  * @typedef {{name: string, search: Search}} Step
  *
  * @typedef {object} Aim what may be sought
@@ -42,6 +42,14 @@ function furthest(order) {
 }
 
 /**
+ * @param {number} heaps
+ * @returns {Step}
+ */
+function infinite(heaps) {
+  return {name: `infinite, to heap ${heaps}`, search: {aim: "infinite", heaps, order: MOST_ELEMENTS}};
+}
+
+/**
  * The numbers that double from the least on, and then the last.
  * @param {number} least
  * @param {number} last
@@ -55,8 +63,9 @@ function doubling(least, last) {
 /** @type {Record<string, Aim>} */
 export const AIMS = {
   all: {
-    name: "full, then deep, then partial",
-    steps: () => [whole(HEAPS, ELEMENTS), whole(MOST_HEAPS, MOST_BY_FEW), furthest(16), furthest(64)]
+    name: "full, then deep, partial, infinite",
+    steps: () =>
+        [whole(HEAPS, ELEMENTS), whole(MOST_HEAPS, MOST_BY_FEW), furthest(16), furthest(64), infinite(INFINITE_HEAPS)]
   },
   whole: {name: "full", steps: () => [whole(HEAPS, ELEMENTS)]},
   deep: {name: "full, deep", steps: () => [whole(MOST_HEAPS, MOST_BY_FEW)]},
@@ -75,6 +84,14 @@ export const AIMS = {
     most: MOST_ELEMENTS,
     usual: 64,
     steps: (order) => doubling(16, order).map(furthest)
+  },
+  infinite: {
+    name: "infinite, to a heap",
+    asks: "Last heap",
+    least: 1,
+    most: MOST_PART,
+    usual: INFINITE_HEAPS,
+    steps: (last) => [infinite(last)]
   },
 };
 

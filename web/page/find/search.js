@@ -3,8 +3,10 @@
 import {gameAddress} from "../address.js";
 import {fieldsOf, verdictOf} from "../certificate.js";
 import {fill, make} from "../dom.js";
+import {infiniteOf, infiniteVerdict, isInfinite} from "../infinite/fields.js";
 import {Failure} from "../prover.js";
 import {reasonOf, told} from "../refusals.js";
+import {isWhole, wholeOf, wholeVerdict} from "../whole/fields.js";
 
 import {AIMS} from "./plan.js";
 
@@ -33,6 +35,17 @@ export async function search(page, {code, aim, number}, list) {
 }
 
 /**
+ * What a text that was found says, and whether it leaves nothing to look for.
+ * @param {string} text
+ */
+function readingOf(text) {
+  if (isWhole(text)) return {verdict: wholeVerdict(wholeOf(text)), isLast: true};
+  if (isInfinite(text)) return {verdict: infiniteVerdict(infiniteOf(text)), isLast: true};
+  const certificate = fieldsOf(text);
+  return {verdict: verdictOf(certificate).replace("yes ", ""), isLast: certificate.period > 0};
+}
+
+/**
  * One step: its certificate, if it found one, and whether no further one is to be taken.
  * @param {Page} page
  * @param {string} code
@@ -47,12 +60,11 @@ async function tried(page, code, {name, search}, line) {
   const timer = setInterval(() => fill(clock, ` ${seconds()} s`), 200);
   fill(line, `${name}: looking … `, clock);
   try {
-    const {answer: text} = await page.finder.ask("solve", code, search);
-    const certificate = fieldsOf(text);
-    const link = make("a", {href: gameAddress(page.collection.keep(text))}, verdictOf(certificate).replace("yes ", ""));
+    const {answer: text} = await page.finder.ask(search.aim === "infinite" ? "solveInfinite" : "solve", code, search);
+    const {verdict, isLast} = readingOf(text);
     line.className = "found";
-    fill(line, `${name}: `, link, ` in ${seconds()} s`);
-    return {text, isLast: certificate.period > 0};
+    fill(line, `${name}: `, make("a", {href: gameAddress(page.collection.keep(text))}, verdict), ` in ${seconds()} s`);
+    return {text, isLast};
   } catch (failure) {
     const gaveUp = failure instanceof Failure && failure.status === GAVE_UP;
     line.className = "missed";

@@ -61,7 +61,7 @@ function noneOf({atlas}, code) {
   if (part) {
     const link = make("a", {href: gameAddress(`${code}/${part}`)}, "A certificate of the atlas");
     const more = part === WHOLE ? " It has the outcome of each position." : "";
-    return [link, ` says that ${code} has no finite quotient, so only parts can be found.${more}`];
+    return [link, ` says that ${code} has no finite quotient, so no full one can be found.${more}`];
   }
   if (!isKnownFurther(atlas, code)) return [];
   return [make("a", {href: gameAddress(code)}, `More is known of ${code}`), " than a search here finds."];
