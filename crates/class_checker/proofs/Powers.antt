@@ -1,15 +1,12 @@
 -- The powers of a letter of which no left word is one.
-use Rattle.std.proofs.Common.{◌≡◌, ◌≢◌, ℕ, ◌<◌, List, length, sym, arith}
-use Rattle.std.specs.Prelude.{slice_index, All}
+use Rattle.std.proofs.Common.{◌≡◌, ◌≢◌, ℕ, ◌<◌, length, arith}
+use Rattle.std.specs.Prelude.{All}
 use Rattle.presentations.specs.declared.TheConstants.{LETTERS}
 use Rattle.presentations.specs.Vectors.{only}
 use Rattle.presentations.proofs.VectorLaws.{length-only, only-other}
 use Rattle.presented_text.specs.Said.{PresentedSaid}
 use Rattle.presented_claims.specs.Claims.{IsElement}
-
--- some other letter is in the word
-abbrev pub HasOther : ℕ → List ℕ → Type 0
-HasOther i w = (j : ℕ) × (j < LETTERS) × (j ≢ i) × (0 < slice_index w j)
+use Rattle.class_tables.specs.Powers.{HasOther}
 
 pub powers : (c : PresentedSaid) (i : ℕ) → i < length c.letters → All (λ r. HasOther i r.0) c.relations → (k : ℕ)
     → IsElement c (only LETTERS i k)

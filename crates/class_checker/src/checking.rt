@@ -1,5 +1,5 @@
 //! The check of a presentation with infinitely many elements, by their classes.
-ghost use Rattle.std.specs.Prelude.{◌≡◌, ◌≢◌, ◌<◌, ℕ, IfOk, IfErr, IsTrue, All, length, slice_index};
+ghost use Rattle.std.specs.Prelude.{◌<◌, ℕ, IfOk, IfErr, IsTrue, length};
 ghost use Rattle.misere_theory.specs.Parts.{IsInfinite};
 ghost use Rattle.presentations.specs.declared.TheConstants.{LETTERS};
 ghost use Rattle.presentations.specs.Vectors.{only};
@@ -13,12 +13,9 @@ ghost use Rattle.presented_tables.specs.Faults.{IsTrueOf};
 ghost use Rattle.class_tables.specs.Tested.{AreTestedClasses};
 ghost use Rattle.class_checker.specs.Endless.{IsEndless, AreSettled};
 
-use crate::weights::weights_for;
-use allocation::Memory;
-use class_tables::{ClassTables, class_tables_of, folds_for, test_presented};
+use crate::weights::settling_for;
+use class_tables::{ClassTables, class_tables_of, folds_for, is_unbounded, test_presented};
 use kept_checker::{NotFound, tested_families};
-use normal_forms::Rule;
-use presentations::LETTERS;
 use presented_tables::{Presented, TablesFault};
 use std::alloc::Allocator;
 
@@ -31,37 +28,13 @@ const CAP: usize = 2;
 /// How many letters of one kind more than relations the labels have: one number after another.
 const MORE: [u16; 6] = [1, 2, 4, 8, 12, 16];
 
-/// Whether the left word has some letter besides letter `i`.
-fn is_free_of(rule: &Rule, i: usize) -> bool
-    ensures { IsTrue result → (j : ℕ) × (j < LETTERS) × (j ≢ i) × (0 < slice_index rule.now.0 j) }
-{
-    for j in 0..LETTERS {
-        if j != i && rule.left[j] > 0 {
-            return true;
-        }
-    }
-    false
-}
-
-/// Whether no left word is seen to be a power of letter `i`.
-fn are_free_of(rules: &[Rule], i: usize) -> bool
-    ensures { IsTrue result → All (λ r. (j : ℕ) × (j < LETTERS) × (j ≢ i) × (0 < slice_index r.0 j)) rules.now }
-{
-    for k in 0..rules.len() {
-        if !is_free_of(&rules[k], i) {
-            return false;
-        }
-    }
-    true
-}
-
 /// Whether each power of letter `i` is an element.
 fn runs_on<A: Allocator>(p: &Presented<A>, i: usize) -> bool
     requires { i < length p.now.letters }
     ensures { IsTrue result → (k : ℕ) → IsElement p.now (only LETTERS i k) }
 {
     let rules = p.basis.rules();
-    are_free_of(rules, i)
+    is_unbounded(rules, i)
 }
 
 /// Whether there is a letter each power of which is an element.
@@ -76,17 +49,18 @@ pub fn is_endless<A: Allocator>(p: &Presented<A>) -> bool
     false
 }
 
-/// Whether the classes are seen to be settled by weights that a search finds.
+/// Whether the classes are seen to be settled by weights and labels that a search finds.
 fn is_settled<A: Allocator + Copy>(
     alloc: A,
     p: &Presented<A>,
     v: &ClassTables<A>,
-) -> Result<bool, Memory>
+) -> Result<bool, TablesFault>
     requires { AreTestedClasses p.now v.now }
-    ensures { IfOk result (λ b. IsTrue b → AreSettled p.now v.now) }
+    ensures settled { IfOk result (λ b. IsTrue b → AreSettled p.now v.now) }
+    ensures fault { IfErr result (λ f. IsTrueOf p.now f) }
 {
-    match weights_for(alloc, p, v)? {
-        Some(weights) => Ok(v.are_settled(p, &weights)),
+    match settling_for(alloc, p, v)? {
+        Some(found) => Ok(v.are_settled(p, &found.untold, &found.weights, &found.labels)),
         None => Ok(false),
     }
 }
@@ -101,10 +75,10 @@ fn settle<A: Allocator + Copy>(
     ensures settled { IfOk result (λ _. AreSettled p.now v.now) }
     ensures fault { IfErr result (λ f. IsTrueOf p.now f) }
 {
-    match is_settled(alloc, p, v) {
-        Ok(true) => Ok(()),
-        Ok(false) => Err(TablesFault::Undecided),
-        Err(_) => Err(TablesFault::Memory),
+    if is_settled(alloc, p, v)? {
+        Ok(())
+    } else {
+        Err(TablesFault::Undecided)
     }
 }
 

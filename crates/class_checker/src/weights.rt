@@ -1,10 +1,13 @@
-//! A search for weights of letters by which classes are settled. Nothing is promised of it.
+//! A search for weights of letters by which classes are settled. Nothing is promised of what it finds.
+ghost use Rattle.std.specs.Prelude.{IfErr};
+ghost use Rattle.presented_tables.specs.Faults.{IsTrueOf};
+
 use allocation::Memory;
-use class_tables::{ClassTables, UntoldPairs};
-use normal_forms::{Exponents, Rule};
+use class_tables::{ClassTables, UntoldPairs, is_unbounded};
+use normal_forms::Exponents;
 use presentations::LETTERS;
-use presented_tables::{Presented, product};
-use std::alloc::Allocator;
+use presented_tables::{Presented, TablesFault, product};
+use std::alloc::{Allocator, Global};
 
 /// The weight of the first letter that runs on, if weights are guessed by what letters do far out.
 const UNIT: u32 = 12;
@@ -14,11 +17,6 @@ const FAR: u16 = 60;
 
 /// How many periods of a letter are taken at most.
 const MOST_TIMES: u16 = 12;
-
-/// Whether no left word is a power of letter `i`.
-fn runs_on(rules: &[Rule], i: usize) -> bool {
-    !rules.iter().any(|rule| (0..LETTERS).all(|j| (j == i) == (rule.left[j] > 0)))
-}
 
 /// So many weights of 1, but `more` for letters `i` and `j`.
 fn single_weights<A: Allocator + Copy>(
@@ -85,7 +83,7 @@ fn first_weight<A: Allocator>(p: &Presented<A>, x: usize, y: usize) -> Option<u3
 /// Weighs the letters that run on and have no weight yet by what they do beside letter `x`.
 fn weigh_beside<A: Allocator>(p: &Presented<A>, x: usize, weights: &mut [u32]) {
     for y in 0..weights.len() {
-        if weights[y] == 0 && runs_on(p.basis.rules(), y) {
+        if weights[y] == 0 && is_unbounded(p.basis.rules(), y) {
             weights[y] = first_weight(p, x, y).unwrap_or(0);
         }
     }
@@ -98,7 +96,7 @@ fn far_weights<A: Allocator + Copy>(alloc: A, p: &Presented<A>) -> Result<Vec<u3
         weights.push(0)?;
     }
     for x in 0..weights.len() {
-        if weights[x] == 0 && runs_on(p.basis.rules(), x) {
+        if weights[x] == 0 && is_unbounded(p.basis.rules(), x) {
             weights[x] = UNIT;
             weigh_beside(p, x, &mut weights);
         }
@@ -109,40 +107,93 @@ fn far_weights<A: Allocator + Copy>(alloc: A, p: &Presented<A>) -> Result<Vec<u3
     Ok(weights)
 }
 
-/// Weights of 1 but 2 for one letter or two by which the classes may be settled, if there are any.
+/// What may settle all classes: those that are told apart, and weights of letters with labels for the others.
+#[derive(Drop)]
+pub(crate) struct Settling<A: Allocator = Global> {
+    pub(crate) untold: UntoldPairs<A>,
+    pub(crate) weights: Vec<u32, A>,
+    pub(crate) labels: Vec<u32, A>,
+}
+
+/// Weights of letters, and labels by which all classes are seen to be lowered.
+#[derive(Drop)]
+struct Lowering<A: Allocator = Global> {
+    weights: Vec<u32, A>,
+    labels: Vec<u32, A>,
+}
+
+/// The weights with such labels, if there are any.
+fn lowering_by<A: Allocator + Copy>(
+    alloc: A,
+    p: &Presented<A>,
+    v: &ClassTables<A>,
+    untold: &UntoldPairs<A>,
+    weights: Vec<u32, A>,
+) -> Result<Option<Lowering<A>>, Memory> {
+    match untold.lowered_by(alloc, p, v, &weights)? {
+        Some(labels) => Ok(Some(Lowering { weights, labels })),
+        None => Ok(None),
+    }
+}
+
+/// Weights of 1 but 2 for one letter or two with such labels, if there are any.
 fn doubled_weights<A: Allocator + Copy>(
     alloc: A,
     p: &Presented<A>,
     v: &ClassTables<A>,
     untold: &UntoldPairs<A>,
-) -> Result<Option<Vec<u32, A>>, Memory> {
+) -> Result<Option<Lowering<A>>, Memory> {
     for i in 0..p.letters.len() {
         for j in 0..i + 1 {
             let weights = single_weights(alloc, p.letters.len(), i, j, 2)?;
-            if untold.may_settle(p, v, &weights) {
-                return Ok(Some(weights));
+            let found = lowering_by(alloc, p, v, untold, weights)?;
+            if found.is_some() {
+                return Ok(found);
             }
         }
     }
     Ok(None)
 }
 
-/// Weights by which the classes may be settled, if some are found.
-pub(crate) fn weights_for<A: Allocator + Copy>(
+/// Weights with such labels, if some are found.
+fn lowering_for<A: Allocator + Copy>(
     alloc: A,
     p: &Presented<A>,
     v: &ClassTables<A>,
-) -> Result<Option<Vec<u32, A>>, Memory> {
-    let Some(untold) = UntoldPairs::of(alloc, v)? else {
-        return Ok(None);
-    };
+    untold: &UntoldPairs<A>,
+) -> Result<Option<Lowering<A>>, Memory> {
     let single = single_weights(alloc, p.letters.len(), 0, 0, 1)?;
-    if untold.may_settle(p, v, &single) {
-        return Ok(Some(single));
+    let found = lowering_by(alloc, p, v, untold, single)?;
+    if found.is_some() {
+        return Ok(found);
     }
     let far = far_weights(alloc, p)?;
-    if untold.may_settle(p, v, &far) {
-        return Ok(Some(far));
+    let found = lowering_by(alloc, p, v, untold, far)?;
+    if found.is_some() {
+        return Ok(found);
     }
-    doubled_weights(alloc, p, v, &untold)
+    doubled_weights(alloc, p, v, untold)
+}
+
+/// What may settle the classes, if it is found.
+///
+/// # Errors
+///
+/// `Limit`, if very many pairs of classes aren't told apart, and want of memory.
+pub(crate) fn settling_for<A: Allocator + Copy>(
+    alloc: A,
+    p: &Presented<A>,
+    v: &ClassTables<A>,
+) -> Result<Option<Settling<A>>, TablesFault>
+    ensures { IfErr result (λ f. IsTrueOf p.now f) }
+{
+    let untold = UntoldPairs::of(alloc, p, v)?;
+    match lowering_for(alloc, p, v, &untold)? {
+        Some(Lowering { weights, labels }) => Ok(Some(Settling {
+            untold,
+            weights,
+            labels,
+        })),
+        None => Ok(None),
+    }
 }

@@ -8,6 +8,8 @@ mod folding;
 mod leading;
 mod listing;
 mod lists;
+mod marks;
+mod powers;
 mod raising;
 mod rows;
 mod separating;
@@ -20,6 +22,7 @@ mod weighing;
 
 pub use classes::ListedWords;
 pub use lists::{ClassLists, Folds};
+pub use powers::is_unbounded;
 pub use raising::folds_for;
 pub use tables::{ClassTables, class_tables_of, test_presented};
 pub use untold::UntoldPairs;

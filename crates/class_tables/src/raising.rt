@@ -9,6 +9,7 @@ use crate::folding::cycle_at;
 use crate::leading::{form_of, lead};
 use crate::listing::words_of;
 use crate::lists::{Folds, MOST_CLASSES};
+use crate::powers::is_unbounded;
 use allocation::Memory;
 use heap_options::{Left, options};
 use normal_forms::{Exponents, Rule};
@@ -25,26 +26,6 @@ const MOST_TIMES: u16 = 12;
 
 /// How often thresholds are raised at most.
 const MOST_RAISED: usize = 200;
-
-/// Whether the word is a power of letter `i`.
-fn is_power(word: &Exponents, i: usize) -> bool {
-    for j in 0..LETTERS {
-        if j != i && word[j] != 0 {
-            return false;
-        }
-    }
-    true
-}
-
-/// Whether some left word is a power of letter `i`.
-fn is_bounded<A: Allocator>(p: &Presented<A>, i: usize) -> bool {
-    for rule in p.basis.rules() {
-        if is_power(&rule.left, i) {
-            return true;
-        }
-    }
-    false
-}
 
 /// The most that a left word has of letter `i`.
 fn most_left(rules: &[Rule], i: usize) -> u16 {
@@ -84,7 +65,11 @@ fn raised<A: Allocator + Copy>(
 ) -> Result<Vec<LetterCycle, A>, Memory> {
     let mut made = Vec::new(alloc);
     for i in 0..folds.len() {
-        let more = if is_bounded(p, i) { 0 } else { more };
+        let more = if is_unbounded(p.basis.rules(), i) {
+            more
+        } else {
+            0
+        };
         made.push(LetterCycle {
             start: start_of(folds, i).saturating_add(more),
             period: if single { 1 } else { period_at(folds, i) },
@@ -185,7 +170,7 @@ fn multiply<A: Allocator + Copy>(
     for _ in 0..4 {
         let mut changed = false;
         for j in 0..folds.len() {
-            if j < p.cycles.len() && !is_bounded(p, j) {
+            if j < p.cycles.len() && is_unbounded(p.basis.rules(), j) {
                 let period = period_of(p, folds, list, j);
                 changed |= period != period_at(folds, j);
                 folds[j] = LetterCycle {

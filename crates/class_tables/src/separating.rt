@@ -11,6 +11,7 @@ ghost use Rattle.class_tables.specs.Separated.{DoDiffer, HasOwn, HaveOwn, AreLow
 use crate::folding::cycle_at;
 use crate::leading::{Led, lead};
 use crate::lists::ClassLists;
+use crate::untold::UntoldPairs;
 use crate::weighing::weight;
 use kept_checker::LabelTables;
 use normal_forms::Exponents;
@@ -61,16 +62,20 @@ fn tells<A: Allocator>(
     Some(mark(t, bits, w, x)? != mark(t, bits, w, y)?)
 }
 
-/// Whether some label is.
-fn are_told<A: Allocator>(t: &LabelTables<A>, bits: &[bool], x: usize, y: usize) -> bool
+/// Whether the label that may tell them apart does.
+fn are_told<A: Allocator>(
+    t: &LabelTables<A>,
+    bits: &[bool],
+    untold: &UntoldPairs<A>,
+    x: usize,
+    y: usize,
+) -> bool
     ensures { IsTrue result → IsTold t.now bits.now x y }
 {
-    for w in 0..t.labels {
-        if tells(t, bits, w, x, y) == Some(true) {
-            return true;
-        }
+    match untold.telling(x, y) {
+        Some(w) => w < t.labels && tells(t, bits, w, x, y) == Some(true),
+        None => false,
     }
-    false
 }
 
 /// The exponent of letter `i` of what letter `j` turns into.
@@ -256,19 +261,20 @@ pub(crate) fn lowers<A: Allocator>(
     Some(differ(base, folds, a, b, &one, &other))
 }
 
-/// Whether some label is.
+/// Whether some label of the list is.
 fn are_lowered<A: Allocator>(
     p: &Presented<A>,
     l: &ClassLists<A>,
     weights: &[u32],
+    labels: &[u32],
     x: usize,
     y: usize,
 ) -> bool
     ensures { IsTrue result → length l.now.base ≤ LETTERS → length l.now.folds ≤ LETTERS
         → (w : ℕ) × AreLowered p.now l.now weights.now x y w }
 {
-    for w in 0..l.labels.len() {
-        if lowers(p, l, weights, x, y, w) == Some(true) {
+    for w in labels {
+        if lowers(p, l, weights, x, y, *w as usize) == Some(true) {
             return true;
         }
     }
@@ -276,7 +282,7 @@ fn are_lowered<A: Allocator>(
 }
 
 /// Whether label `w` is seen to lead class `x` to lighter words, different ones to different ones.
-fn lowers_class<A: Allocator>(
+pub(crate) fn lowers_class<A: Allocator>(
     p: &Presented<A>,
     l: &ClassLists<A>,
     weights: &[u32],
@@ -314,7 +320,7 @@ fn runs_none(folds: &[LetterCycle], a: &Exponents) -> bool
 }
 
 /// Whether no letter runs on in class `x`.
-fn is_alone<A: Allocator>(l: &ClassLists<A>, x: usize) -> bool
+pub(crate) fn is_alone<A: Allocator>(l: &ClassLists<A>, x: usize) -> bool
     ensures { IsTrue result → (j : ℕ) → RunsOn l.now.folds (word_at l.now.classes x) j → ⊥ }
 {
     match l.classes.get(x) {
@@ -323,11 +329,12 @@ fn is_alone<A: Allocator>(l: &ClassLists<A>, x: usize) -> bool
     }
 }
 
-/// Whether class `x` is seen to have one word, or to be lowered by some label.
-pub(crate) fn is_class_settled<A: Allocator>(
+/// Whether class `x` is seen to have one word, or to be lowered by some label of the list.
+fn is_class_settled<A: Allocator>(
     p: &Presented<A>,
     l: &ClassLists<A>,
     weights: &[u32],
+    labels: &[u32],
     x: usize,
 ) -> bool
     ensures { IsTrue result → length l.now.base ≤ LETTERS → length l.now.folds ≤ LETTERS
@@ -336,8 +343,8 @@ pub(crate) fn is_class_settled<A: Allocator>(
     if is_alone(l, x) {
         return true;
     }
-    for w in 0..l.labels.len() {
-        if lowers_class(p, l, weights, x, w) == Some(true) {
+    for w in labels {
+        if lowers_class(p, l, weights, x, *w as usize) == Some(true) {
             return true;
         }
     }
@@ -350,17 +357,19 @@ fn is_pair_settled<A: Allocator>(
     l: &ClassLists<A>,
     t: &LabelTables<A>,
     bits: &[bool],
+    untold: &UntoldPairs<A>,
     weights: &[u32],
+    labels: &[u32],
     x: usize,
     y: usize,
 ) -> bool
     ensures { IsTrue result → length l.now.base ≤ LETTERS → length l.now.folds ≤ LETTERS
         → IsTold t.now bits.now x y ⊎ ((w : ℕ) × AreLowered p.now l.now weights.now x y w) }
 {
-    if are_told(t, bits, x, y) {
+    if are_told(t, bits, untold, x, y) {
         return true;
     }
-    are_lowered(p, l, weights, x, y)
+    are_lowered(p, l, weights, labels, x, y)
 }
 
 /// Whether class `x` is, with each one before it.
@@ -369,36 +378,41 @@ fn are_settled_with<A: Allocator>(
     l: &ClassLists<A>,
     t: &LabelTables<A>,
     bits: &[bool],
+    untold: &UntoldPairs<A>,
     weights: &[u32],
+    labels: &[u32],
     x: usize,
 ) -> bool
     ensures { IsTrue result → length l.now.base ≤ LETTERS → length l.now.folds ≤ LETTERS → (y : ℕ) → y < x
         → IsTold t.now bits.now x y ⊎ ((w : ℕ) × AreLowered p.now l.now weights.now x y w) }
 {
     for y in 0..x {
-        if !is_pair_settled(p, l, t, bits, weights, x, y) {
+        if !is_pair_settled(p, l, t, bits, untold, weights, labels, x, y) {
             return false;
         }
     }
     true
 }
 
-/// Whether all classes are seen to be separated.
+/// Whether all classes are seen to be separated: each pair by some label, and those that none tells apart by one of the
+/// list.
 pub(crate) fn are_separated<A: Allocator>(
     p: &Presented<A>,
     l: &ClassLists<A>,
     t: &LabelTables<A>,
     bits: &[bool],
+    untold: &UntoldPairs<A>,
     weights: &[u32],
+    labels: &[u32],
 ) -> bool
     ensures { IsTrue result → length l.now.base ≤ LETTERS → length l.now.folds ≤ LETTERS
         → AreSettledClasses p.now l.now t.now bits.now weights.now }
 {
     for x in 0..l.classes.len() {
-        if !is_class_settled(p, l, weights, x) {
+        if !is_class_settled(p, l, weights, labels, x) {
             return false;
         }
-        if !are_settled_with(p, l, t, bits, weights, x) {
+        if !are_settled_with(p, l, t, bits, untold, weights, labels, x) {
             return false;
         }
     }

@@ -18,6 +18,7 @@ use crate::lists::{ClassLists, Folds, lists_of};
 use crate::rows::{images, marks, nexts};
 use crate::separating::are_separated;
 use crate::turning::turns_of;
+use crate::untold::UntoldPairs;
 use kept_checker::{ClassTurns, LabelTables};
 use presentations::LETTERS;
 use presented_tables::{
@@ -162,7 +163,7 @@ fn label_tables<A: Allocator + Copy>(
     })
 }
 
-/// The most that classes, labels and relations come to, multiplied: about a minute of work.
+/// The most that classes, labels and relations come to, multiplied: minutes of work.
 const MOST_WORK: u64 = 1 << 34;
 
 /// Whether what the tables would take is more than that.
@@ -216,11 +217,27 @@ pub fn class_tables_of<A: Allocator + Copy>(
 }
 
 impl<A: Allocator> ClassTables<A> {
-    /// Whether all classes are seen to be settled, by such weights of letters.
-    pub fn are_settled(&self, p: &Presented<A>, weights: &[u32]) -> bool
+    /// Whether all classes are seen to be settled, by such weights of letters; those that no label tells apart beside one
+    /// of these labels. What is written down of the classes that are told apart is looked at first, and nothing is
+    /// believed of it.
+    pub fn are_settled(
+        &self,
+        p: &Presented<A>,
+        untold: &UntoldPairs<A>,
+        weights: &[u32],
+        labels: &[u32],
+    ) -> bool
         requires { AreTestedClasses p.now self.now }
         ensures { IsTrue result → AreSettledClasses p.now self.now.lists self.now.tables self.now.bits weights.now }
     {
-        are_separated(p, &self.lists, &self.tables, &self.bits, weights)
+        are_separated(
+            p,
+            &self.lists,
+            &self.tables,
+            &self.bits,
+            untold,
+            weights,
+            labels,
+        )
     }
 }

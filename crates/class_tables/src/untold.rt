@@ -1,9 +1,13 @@
-//! A search for the pairs of classes that no label tells apart, and a look at whether weights may settle them. Nothing is
-//! promised of either.
-use crate::separating::{is_class_settled, lowers, mark};
+//! A search for the pairs of classes that no label tells apart, and for labels that lower them. Nothing is promised of
+//! either.
+ghost use Rattle.std.specs.Prelude.{IfErr};
+ghost use Rattle.presented_tables.specs.Faults.{IsTrueOf};
+
+use crate::marks::ClassMarks;
+use crate::separating::{is_alone, lowers, lowers_class};
 use crate::tables::ClassTables;
 use allocation::Memory;
-use presented_tables::Presented;
+use presented_tables::{Presented, TablesFault};
 use std::alloc::{Allocator, Global};
 
 /// The most pairs that are listed.
@@ -12,28 +16,20 @@ const MOST_PAIRS: usize = 1 << 20;
 /// The most looks at pairs beside labels that are taken, times relations.
 const MOST_LOOKS: usize = 1 << 29;
 
-/// Pairs of classes that may not be told apart.
+/// The marks of classes, and the pairs of them that may not be told apart.
 #[derive(Drop)]
 pub struct UntoldPairs<A: Allocator = Global> {
+    marks: ClassMarks<A>,
     pairs: Vec<(u32, u32), A>,
 }
 
-/// The number after `x` of a sequence that looks like chance (Marsaglia, Xorshift RNGs, 2003).
-fn shuffled(x: u64) -> u64 {
-    let x = x ^ (x << 13);
-    let x = x ^ (x >> 7);
-    x ^ (x << 17)
-}
-
-/// A number for the marks of class `x` beside all labels: the same for the same marks, and mostly another one for others.
-fn signature<A: Allocator>(v: &ClassTables<A>, x: usize) -> u64 {
-    let mut chance: u64 = 0x9e37_79b9_7f4a_7c15;
+/// A number for a row of lanes: the same for the same rows, and mostly another one for others.
+fn signature(row: &[u64]) -> u64 {
     let mut sum: u64 = 0;
-    for w in 0..v.tables.labels {
-        chance = shuffled(chance);
-        if mark(&v.tables, &v.bits, w, x) == Some(true) {
-            sum ^= chance;
-        }
+    for lane in row {
+        sum = (sum ^ *lane)
+            .wrapping_mul(0x9e37_79b9_7f4a_7c15)
+            .rotate_left(29);
     }
     sum
 }
@@ -41,11 +37,12 @@ fn signature<A: Allocator>(v: &ClassTables<A>, x: usize) -> u64 {
 /// The classes by their signatures.
 fn by_signature<A: Allocator + Copy>(
     alloc: A,
-    v: &ClassTables<A>,
+    marks: &ClassMarks<A>,
+    classes: usize,
 ) -> Result<Vec<(u64, u32), A>, Memory> {
     let mut all = Vec::new(alloc);
-    for x in 0..v.tables.classes {
-        all.push((signature(v, x), x.min(u32::MAX as usize) as u32))?;
+    for x in 0..classes {
+        all.push((signature(marks.row(x)), x.min(u32::MAX as usize) as u32))?;
     }
     all.sort_unstable();
     Ok(all)
@@ -69,58 +66,131 @@ fn add_pairs<A: Allocator>(
     Ok(())
 }
 
-/// How many labels are looked at until one is seen to lower classes `x` and `y`, if one of the first `most` does.
-fn looks_until_lowered<A: Allocator>(
+/// A label that is seen to lower classes `x` and `y`: number `last`, if that one is.
+fn label_for_pair<A: Allocator>(
     p: &Presented<A>,
     v: &ClassTables<A>,
     weights: &[u32],
     x: usize,
     y: usize,
-    most: usize,
+    last: usize,
 ) -> Option<usize> {
-    for w in 0..most.min(v.lists.labels.len()) {
-        if lowers(p, &v.lists, weights, x, y, w) == Some(true) {
-            return Some(w.saturating_add(1));
+    if lowers(p, &v.lists, weights, x, y, last) == Some(true) {
+        return Some(last);
+    }
+    (0..v.lists.labels.len()).find(|w| lowers(p, &v.lists, weights, x, y, *w) == Some(true))
+}
+
+/// A label that is seen to lower class `x`: number `last`, if that one is.
+fn label_for_class<A: Allocator>(
+    p: &Presented<A>,
+    v: &ClassTables<A>,
+    weights: &[u32],
+    x: usize,
+    last: usize,
+) -> Option<usize> {
+    if lowers_class(p, &v.lists, weights, x, last) == Some(true) {
+        return Some(last);
+    }
+    (0..v.lists.labels.len()).find(|w| lowers_class(p, &v.lists, weights, x, *w) == Some(true))
+}
+
+/// Adds the label, if it isn't there.
+fn add_label<A: Allocator>(labels: &mut Vec<u32, A>, w: usize) -> Result<(), Memory> {
+    let number = w.min(u32::MAX as usize) as u32;
+    if !labels.contains(&number) {
+        labels.push(number)?;
+    }
+    Ok(())
+}
+
+/// Adds labels that are seen to lower each class of more than one word, and says whether there are such.
+fn lower_classes<A: Allocator>(
+    p: &Presented<A>,
+    v: &ClassTables<A>,
+    weights: &[u32],
+    labels: &mut Vec<u32, A>,
+) -> Result<bool, Memory> {
+    let mut last = 0;
+    for x in 0..v.tables.classes {
+        if !is_alone(&v.lists, x) {
+            match label_for_class(p, v, weights, x, last) {
+                Some(w) => last = w,
+                None => return Ok(false),
+            }
+            add_label(labels, last)?;
         }
     }
-    None
+    Ok(true)
 }
 
 impl<A: Allocator + Copy> UntoldPairs<A> {
-    /// The pairs of classes with the same marks beside all labels, or none if there are very many.
-    pub fn of(alloc: A, v: &ClassTables<A>) -> Result<Option<UntoldPairs<A>>, Memory> {
-        let sorted = by_signature(alloc, v)?;
+    /// The pairs of classes with the same marks beside all labels.
+    ///
+    /// # Errors
+    ///
+    /// `Limit`, if there are very many, and want of memory.
+    pub fn of(alloc: A, p: &Presented<A>, v: &ClassTables<A>) -> Result<UntoldPairs<A>, TablesFault>
+        ensures { IfErr result (λ f. IsTrueOf p.now f) }
+    {
+        let marks = ClassMarks::of(alloc, v)?;
+        let sorted = by_signature(alloc, &marks, v.tables.classes)?;
         let mut pairs = Vec::new(alloc);
         for k in 0..sorted.len() {
             add_pairs(&mut pairs, &sorted, k)?;
             if pairs.len() > MOST_PAIRS {
-                return Ok(None);
+                return Err(TablesFault::Limit);
             }
         }
-        Ok(Some(UntoldPairs { pairs }))
+        Ok(UntoldPairs { marks, pairs })
+    }
+
+    /// Labels that are seen to lower each pair, or each class of more than one word, by such weights of letters, if that is
+    /// seen before too many looks.
+    pub fn lowered_by(
+        &self,
+        alloc: A,
+        p: &Presented<A>,
+        v: &ClassTables<A>,
+        weights: &[u32],
+    ) -> Result<Option<Vec<u32, A>>, Memory> {
+        let mut labels = Vec::new(alloc);
+        if lower_classes(p, v, weights, &mut labels)? && self.lower(p, v, weights, &mut labels)? {
+            Ok(Some(labels))
+        } else {
+            Ok(None)
+        }
     }
 }
 
 impl<A: Allocator> UntoldPairs<A> {
-    /// Whether each pair is seen to be lowered, by such weights of letters, before too many looks.
-    fn are_lowered(&self, p: &Presented<A>, v: &ClassTables<A>, weights: &[u32]) -> bool {
-        let mut left = MOST_LOOKS / (p.basis.rules().len() + 1);
-        for (x, y) in self.pairs.iter() {
-            match looks_until_lowered(p, v, weights, *x as usize, *y as usize, left) {
-                Some(looks) => left = left.saturating_sub(looks),
-                None => return false,
-            }
-        }
-        true
+    /// A label that may tell the classes apart.
+    pub(crate) fn telling(&self, x: usize, y: usize) -> Option<usize> {
+        self.marks.telling(x, y)
     }
 
-    /// Whether it is seen that such weights of letters may settle all classes.
-    pub fn may_settle(&self, p: &Presented<A>, v: &ClassTables<A>, weights: &[u32]) -> bool {
-        for x in 0..v.tables.classes {
-            if !is_class_settled(p, &v.lists, weights, x) {
-                return false;
+    /// Adds labels that are seen to lower each pair, and says whether there are such.
+    fn lower(
+        &self,
+        p: &Presented<A>,
+        v: &ClassTables<A>,
+        weights: &[u32],
+        labels: &mut Vec<u32, A>,
+    ) -> Result<bool, Memory> {
+        let mut last = 0;
+        let mut left = MOST_LOOKS / (p.basis.rules().len() + 1);
+        for (x, y) in self.pairs.iter() {
+            let Some(w) = label_for_pair(p, v, weights, *x as usize, *y as usize, last) else {
+                return Ok(false);
+            };
+            let looks = if w == last { 1 } else { w.saturating_add(2) };
+            if left < looks {
+                return Ok(false);
             }
+            left -= looks;
+            last = w;
+            add_label(labels, w)?;
         }
-        self.are_lowered(p, v, weights)
+        Ok(true)
     }
 }

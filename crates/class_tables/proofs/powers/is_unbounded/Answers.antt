@@ -1,7 +1,7 @@
 use Rattle.std.proofs.Common.{refl, subst, arith}
 use Rattle.relations.proofs.Each.{each-next}
-use Rattle.class_checker.proofs.Powers.{HasOther}
-use Rattle.class_checker.proofs.checking.are_free_of.Goals as goal
+use Rattle.class_tables.specs.Powers.{HasOther}
+use Rattle.class_tables.proofs.powers.is_unbounded.Goals as goal
 
 pub loop-k-preserved : goal.loop-k-preserved
 loop-k-preserved c =
