@@ -6,6 +6,7 @@ use Rattle.given_quotients.specs.Given.{Gives, Refuses}
 use Rattle.given_quotients.specs.declared.giving.Quotient.{Quotient}
 use Rattle.given_quotients.specs.declared.giving.Quotient.TheVariants.{Finite, Whole}
 use Rattle.infinite_descriptions.specs.Whole.{IsWholeText}
+use Rattle.infinite_descriptions.specs.declared.describing.Output.TheVariants as infinite
 use Rattle.descriptions.specs.Described.{IsDescription, IsIdealText}
 use Rattle.descriptions.specs.Presenting.{IsRelationsWord}
 use Rattle.descriptions.specs.declared.presenting.PresentBound.{PresentBound}
@@ -58,11 +59,13 @@ abbrev pub IsRelationsText : Form → Certificate → List ℕ → Option (List 
 IsRelationsText form c text note = (word : List ℕ) × (above : Option PresentBound)
     × IsRelationsWord form c word above × (text ≡ word ++ codes "\n") × (note ≡ option_map note_line above)
 
--- The text of a whole game, in lines; or that it is described in lines alone.
+-- The text of a whole game, in lines, for LaTeX or as JSON; or that it is described in no other way.
 abbrev pub DescribesWhole : DominanceSaid → Output → List ℕ → Bool → Type 0
-DescribesWhole c Description text succeeds = IsWholeText c text × (succeeds ≡ true)
+DescribesWhole c Description text succeeds = IsWholeText infinite.Plain c text × (succeeds ≡ true)
+DescribesWhole c Latex text succeeds = IsWholeText infinite.Latex c text × (succeeds ≡ true)
+DescribesWhole c Json text succeeds = IsWholeText infinite.Json c text × (succeeds ≡ true)
 DescribesWhole c _ text succeeds =
-    (text ≡ codes "a whole game is described in lines alone\n") × (succeeds ≡ false)
+    (text ≡ codes "a whole game is described in lines, for LaTeX or as JSON\n") × (succeeds ≡ false)
 
 -- What is said by a search of which only this is known, when it met a bound.
 module _ (Met : Meets) where

@@ -3,6 +3,7 @@ ghost use Rattle.std.specs.Prelude.{◌≡◌, ◌++◌, IfOk, IfErr, None, true
 ghost use Rattle.std.specs.String.{string_bytes};
 ghost use Rattle.check_command.specs.Checks.{AreGiven, IsGivenCause, failed};
 ghost use Rattle.describe_command.specs.Described.{Describes, DescribesFoundBy, DescribesInBy, DescribesForBy, DescribesQuotientBy, DescribesWhole, bound_line, note_line};
+ghost use Rattle.infinite_descriptions.specs.Whole.{IsWholeText};
 ghost use Rattle.requests.specs.declared.plans.Output.TheVariants.{Relations};
 
 use crate::searches::{Relating, Texts};
@@ -12,7 +13,7 @@ use command_results::{Noted, Said, Stop};
 use descriptions::{Bound, Form, Notation, PresentBound, RelationsWord, System, Undescribed};
 use folders::Folder;
 use given_quotients::{Quotient, quotient_of};
-use infinite_descriptions::whole_text;
+use infinite_descriptions::{Output as WholeOutput, whole_text};
 use requests::Output;
 use std::alloc::Global;
 use streams::Source;
@@ -157,15 +158,28 @@ fn finite_noted<T: Texts>(
     }
 }
 
-/// The quotient of a whole game in lines, or that it is described in lines alone.
+/// The quotient of a whole game in lines, for LaTeX or as JSON.
+fn whole_described(alloc: Global, game: &WholeGame, output: WholeOutput) -> Result<Noted, Memory>
+    ensures { IfOk result (λ n. IsWholeText output game.now n.said.text.items × (n.said.succeeds ≡ true)
+        × (option_map (λ t. t.now) n.note ≡ None)) }
+{
+    Ok(alone(Said::done(whole_text(alloc, game, output)?)))
+}
+
+/// The same, or that it is described in no other way.
 fn whole_noted(alloc: Global, game: &WholeGame, output: Output) -> Result<Noted, Memory>
     ensures { IfOk result (λ n. DescribesWhole game.now output n.said.text.items n.said.succeeds
         × (option_map (λ t. t.now) n.note ≡ None)) }
 {
     match output {
-        Output::Description => Ok(alone(Said::done(whole_text(alloc, game)?))),
-        Output::Latex | Output::Json | Output::Relations | Output::Singular | Output::Gap => {
-            refuse(alloc, "a whole game is described in lines alone\n")
+        Output::Description => whole_described(alloc, game, WholeOutput::Plain),
+        Output::Latex => whole_described(alloc, game, WholeOutput::Latex),
+        Output::Json => whole_described(alloc, game, WholeOutput::Json),
+        Output::Relations | Output::Singular | Output::Gap => {
+            refuse(
+                alloc,
+                "a whole game is described in lines, for LaTeX or as JSON\n",
+            )
         }
     }
 }
@@ -193,8 +207,8 @@ fn noted<T: Texts>(
 /// generators, standard invariants and the pretending function in words, plain, for LaTeX or in JSON;
 /// or by its relations alone, as one word for `present`, or as an ideal for Singular or GAP. Or else why
 /// it gives none, or within which bound it is not described. The note names the bound of `present`
-/// that the one word's relations are above. That of a whole game is described in lines alone: by the
-/// presentation of the monoid of triples, and the triples of its heaps.
+/// that the one word's relations are above. That of a whole game is described in lines, for LaTeX or as JSON:
+/// by the presentation of the monoid of triples, and the triples of its heaps.
 pub fn describe<'a, F: Folder, S: Source>(
     alloc: Global,
     file: Option<&'a str>,

@@ -16,10 +16,10 @@ output_for layout.Lines = Plain
 output_for layout.Latex = Latex
 output_for layout.Json = Json
 
--- all that a text says of what it shows; of a whole game in lines, whatever the layout
+-- all that a text says of what it shows
 abbrev pub ShowsAs : Layout → ShownText → List ℕ → Type 0
 ShowsAs layout (Tracked k) text = IsDescription (output_for layout) k text
-ShowsAs layout (Whole c) text = IsWholeText c text
+ShowsAs layout (Whole c) text = IsWholeText (output_for layout) c text
 
 -- the same of what was found, and else the text of a no
 abbrev pub ShowsFound : {A : Type 0} → Layout → Result ShownText (Vec ℕ A) → List ℕ → Bool → Type 0

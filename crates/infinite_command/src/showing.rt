@@ -40,11 +40,11 @@ fn quotient_said(alloc: Global, shown: &Infinite, layout: Layout) -> Result<Said
 }
 
 /// What is said of a whole game.
-fn game_said(alloc: Global, game: &WholeGame) -> Result<Said, Memory>
-    ensures text { IfOk result (λ s. IsWholeText game.now s.text.items) }
+fn game_said(alloc: Global, game: &WholeGame, layout: Layout) -> Result<Said, Memory>
+    ensures text { IfOk result (λ s. IsWholeText (output_for layout) game.now s.text.items) }
     ensures succeeds { IfOk result (λ s. s.succeeds ≡ true) }
 {
-    Ok(Said::done(whole_text(alloc, game)?))
+    Ok(Said::done(whole_text(alloc, game, output_for(layout))?))
 }
 
 /// What is said of what was found.
@@ -53,14 +53,14 @@ fn said_of(alloc: Global, found: Result<ShownText, Vec<u8>>, layout: Layout) -> 
 {
     match found {
         Ok(ShownText::Tracked(shown)) => quotient_said(alloc, &shown, layout),
-        Ok(ShownText::Whole(game)) => game_said(alloc, &game),
+        Ok(ShownText::Whole(game)) => game_said(alloc, &game, layout),
         Err(no) => Ok(Said::no(no)),
     }
 }
 
 /// The infinite quotient that the file, or standard input where no file is named, shows under the
-/// limit: all that its certificate says, in lines, for LaTeX or as JSON; that of a whole game in lines
-/// alone. Or else why it shows none.
+/// limit, or the whole game: all that its text says, in lines, for LaTeX or as JSON. Or else why it shows
+/// none.
 pub fn show_infinite<'a, F: Folder, S: Source>(
     alloc: Global,
     file: Option<&'a str>,

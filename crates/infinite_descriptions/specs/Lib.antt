@@ -8,4 +8,7 @@ pub mod Plain
 pub mod Latex
 pub mod Json
 pub mod Described
+pub mod WholeLines
+pub mod WholeLatex
+pub mod WholeJson
 pub mod Whole

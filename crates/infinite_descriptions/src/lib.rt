@@ -1,5 +1,5 @@
-//! What a certificate of an infinite quotient says, in a text for readers, for LaTeX and as JSON; and what a
-//! text of a whole game says, for readers.
+//! What a certificate of an infinite quotient says, or a text of a whole game, in a text for readers, for LaTeX
+//! and as JSON.
 #![tactic(auto)]
 
 mod counts;
@@ -17,6 +17,8 @@ mod regions;
 mod sums;
 mod tables;
 mod whole;
+mod whole_json;
+mod whole_latex;
 
 pub use describing::{Output, described};
 pub use families::printed_places_are_right;

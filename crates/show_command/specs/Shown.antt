@@ -8,6 +8,7 @@ use Rattle.given_quotients.specs.Given.{Gives, Refuses}
 use Rattle.given_quotients.specs.declared.giving.Quotient.{Quotient}
 use Rattle.given_quotients.specs.declared.giving.Quotient.TheVariants.{Finite, Whole}
 use Rattle.infinite_descriptions.specs.Whole.{IsWholeText}
+use Rattle.infinite_descriptions.specs.declared.describing.Output.TheVariants.{Plain}
 
 -- the first two lines
 abbrev pub head_lines : Certificate → List ℕ
@@ -65,7 +66,7 @@ pub record IsQuotientText (c : Certificate) (text : List ℕ) : Type 0 where
 -- the same of either kind of quotients
 abbrev pub ShowsOf : Quotient → List ℕ → Type 0
 ShowsOf (Finite c) text = IsQuotientText c text
-ShowsOf (Whole c) text = IsWholeText c text
+ShowsOf (Whole c) text = IsWholeText Plain c text
 
 -- the text of the quotient that was found, and the text of a no where none was
 abbrev pub ShowsFound : {A : Type 0} → Result Quotient (Vec ℕ A) → List ℕ → Bool → Type 0

@@ -10,7 +10,7 @@ use certificate::Cert;
 use command_results::{Said, Stop};
 use folders::Folder;
 use given_quotients::{Quotient, quotient_of};
-use infinite_descriptions::whole_text;
+use infinite_descriptions::{Output, whole_text};
 use std::alloc::{AllocError, Global};
 use streams::Source;
 
@@ -122,7 +122,7 @@ fn shown(alloc: Global, found: Result<Quotient, Vec<u8>>) -> Result<Said, Memory
 {
     match found {
         Ok(Quotient::Finite(certified)) => Ok(Said::done(quotient_text(alloc, &certified)?)),
-        Ok(Quotient::Whole(game)) => Ok(Said::done(whole_text(alloc, &game)?)),
+        Ok(Quotient::Whole(game)) => Ok(Said::done(whole_text(alloc, &game, Output::Plain)?)),
         Err(no) => Ok(Said::no(no)),
     }
 }

@@ -1,6 +1,6 @@
 use Rattle.std.proofs.Common.{◌≡◌}
 use Rattle.std.specs.String.{string_bytes}
-use Rattle.infinite_descriptions.specs.Whole.{heap_rank_lines}
+use Rattle.infinite_descriptions.specs.WholeLines.{heap_rank_lines}
 use Rattle.infinite_descriptions.proofs.whole.heap_rank_lines.Given as goal
 
 abbrev pub invariant-loop-i : goal.invariant-loop-i
