@@ -48,6 +48,7 @@ class Presentation:
     """What a text of a presentation says."""
 
     code: str
+    period: int
     letters: tuple[int, ...]
     words: tuple[Word | None, ...]
     relations: tuple[tuple[Word, Word], ...]
@@ -58,7 +59,7 @@ class Presentation:
         lines = [
             "mqp 1",
             f"code {self.code}",
-            f"heaps {len(self.words)}",
+            f"heaps {len(self.words)}" + (f" period {self.period}" if self.period else ""),
             "letters " + " ".join(map(str, self.letters)),
             "words " + " ".join("-" if it is None else spelled(it) for it in self.words),
             *(f"relation {spelled(left)} {spelled(right)}" for left, right in self.relations),
@@ -99,11 +100,11 @@ class Presentation:
     def says(self, most: int) -> tuple[object, ...]:
         """All that it says: two of these are equal if the texts say the same in the same letters."""
         portion = frozenset(filter(self.is_p, self.standard_words(most)))
-        return self.code, self.letters, self.words, frozenset(self.relations), portion
+        return self.code, self.period, self.letters, self.words, frozenset(self.relations), portion
 
 
 def parsed(text: str) -> Presentation:
-    """What a text of a presentation says that has no period."""
+    """What a text of a presentation says."""
     lines = [line.split(" ") for line in text.splitlines()]
     named = {words[0]: words[1:] for words in lines if words[0] != "relation"}
     count = len(named["letters"])
@@ -111,6 +112,7 @@ def parsed(text: str) -> Presentation:
     cycles = [(int(start), int(period)) for start, period in (it.split(":") for it in named["cycle"])]
     return Presentation(
         code=named["code"][0],
+        period=int(named["heaps"][2]) if len(named["heaps"]) > 1 else 0,
         letters=tuple(map(int, named["letters"])),
         words=tuple(None if it == "-" else exponents(it, count) for it in named["words"]),
         relations=tuple(relations),
@@ -128,18 +130,6 @@ def described(program: str, certificate: str) -> dict[str, Any]:
     return said
 
 
-def heaps_of(said: dict[str, Any]) -> list[str]:
-    """The words of the heaps of which all is shown: in a whole game those up to the bound of the check."""
-    words: list[str] = said["heaps"]
-    if said["kind"] != "full":
-        return words
-    parts = 3 if re.search("[89a-f]", said["code"]) else 2
-    last = parts * (said["start"] + said["period"]) + len(said["code"]) - 2
-    while len(words) < last:
-        words.append(words[-said["period"]])
-    return words[:last]
-
-
 def presentation_of(said: dict[str, Any]) -> Presentation:
     """The presentation of what is said of a finite quotient."""
     letters = tuple(sorted(said["generators"].values()))
@@ -148,8 +138,9 @@ def presentation_of(said: dict[str, Any]) -> Presentation:
     relations = [(exponents(left, count), exponents(right, count)) for left, right in said["relations"]]
     return Presentation(
         code=said["code"],
+        period=said["period"] if said["kind"] == "full" else 0,
         letters=letters,
-        words=tuple(exponents(it, count) for it in heaps_of(said)),
+        words=tuple(exponents(it, count) for it in said["heaps"]),
         relations=tuple(sorted(relations, key=relation_rank)),
         cycles=tuple((max((it[i] for it in portion), default=-1) + 1, 1) for i in range(count)),
         portion=tuple(sorted(portion, key=rank)),

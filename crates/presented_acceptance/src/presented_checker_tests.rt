@@ -74,3 +74,32 @@ fn wrong_presentations_are_refused(rt: HostRuntime) {
         b"mqp 1\ncode 0.33\nheaps 3\nletters 1 2\nwords a b -\nrelation a^2 1\nrelation b^3 b\ncycle 2:1 3:1\nportion a b^2\nend\n";
     assert!(rt; is_said(rt.alloc(), text, b"no 33 Undecided\n"));
 }
+
+#[test]
+fn whole_games_are_presented(rt: HostRuntime) {
+    // Each move takes one counter: the positions with an odd number of them are P.
+    let text =
+        b"mqp 1\ncode 0.3\nheaps 2 period 2\nletters 1\nwords a 1\nrelation a^2 1\ncycle 2:1\nportion a\nend\n";
+    assert!(rt; is_said(rt.alloc(), text, b"yes 0.3 order 2 start 1 period 2\n"));
+    match check_presented(rt.alloc(), text) {
+        Ok(quotient) => {
+            assert_eq!(rt; quotient.heaps(), 2);
+            assert_eq!(rt; quotient.period(), 2);
+        }
+        Err(_) => assert!(rt; false),
+    }
+    // Heap 3 leads to heap 2, which is left out.
+    let text =
+        b"mqp 1\ncode 0.3\nheaps 2 period 2\nletters 1\nwords a -\nrelation a^2 1\ncycle 2:1\nportion a\nend\n";
+    assert!(rt; is_said(rt.alloc(), text, b"no 31 Part\n"));
+    // Heap 4 leads to heap 3 alone, which is P.
+    let text =
+        b"mqp 1\ncode 0.3\nheaps 3 period 3\nletters 1\nwords a 1 a\nrelation a^2 1\ncycle 2:1\nportion a\nend\n";
+    assert!(rt;
+        is_said(
+            rt.alloc(),
+            text,
+            b"no 7 Outcome\nrule fails at 4\noutcome N\n"
+        )
+    );
+}

@@ -153,6 +153,17 @@ fn breaking_beside<A: SmallAllocator + Copy>(
     breaking(alloc, p, position_of(alloc, &heaps)?)
 }
 
+/// The last heap that is tried: that of the list; in a whole game some beyond it, which may have other options than heaps
+/// with the same word.
+fn last_of<A: Allocator>(p: &Presented<A>) -> u64 {
+    let heaps = p.heaps as u64;
+    if p.period == 0 {
+        heaps
+    } else {
+        3 * (heaps + 1) + p.code.last() as u64
+    }
+}
+
 /// The same of element `k` and each heap.
 fn breaking_behind<A: SmallAllocator + Copy>(
     alloc: A,
@@ -163,7 +174,7 @@ fn breaking_behind<A: SmallAllocator + Copy>(
     requires { IsInRanges p.now }
     ensures { IfOk result (λ found. IfSome found (IsBrokenAt p.now p.now.code)) }
 {
-    for heap in 1..p.heaps as u64 + 1 {
+    for heap in 1..last_of(p).saturating_add(1) {
         if search.left == 0 {
             break;
         }

@@ -1,5 +1,5 @@
 //! A check of a presentation from its beginning to its end.
-ghost use Rattle.std.specs.Prelude.{◌≡◌, IfOk, IfErr, length};
+ghost use Rattle.std.specs.Prelude.{◌≡◌, ◌<◌, IfOk, IfErr, IsTrue, length};
 ghost use Rattle.misere_theory.specs.Parts.{IsInfinite};
 ghost use Rattle.kept_checker.specs.Numbers.{KeptPositions, AreFoundTested};
 ghost use Rattle.told_labels.specs.Told.{AreTold};
@@ -7,6 +7,7 @@ ghost use Rattle.presented_text.specs.Said.{PresentedSaid, IsInRanges};
 ghost use Rattle.presented_text.specs.Spelling.{SpellsPresented};
 ghost use Rattle.presented_claims.specs.Presents.{Presents};
 ghost use Rattle.presented_forms.specs.Form.{IsInForm};
+ghost use Rattle.presented_forms.specs.Only.{IsLeast};
 ghost use Rattle.presented_tables.specs.Tested.{AreTestedTables, HasWord};
 ghost use Rattle.presented_tables.specs.Faults.{IsTrueOf};
 ghost use Rattle.class_checker.specs.Endless.{IsEndless};
@@ -25,6 +26,7 @@ use presented_forms::{is_in_form, is_least};
 use presented_tables::{Presented, PresentedTables, TablesFault, tables_of};
 use std::alloc::Allocator;
 use told_labels::{NotTold, told_apart};
+use whole_presentations::{roll, unroll};
 
 /// The most relations that are taken.
 const MOST_RELATIONS: usize = 4096;
@@ -226,6 +228,76 @@ fn order_of<A: SmallAllocator + Copy>(
     Ok(Some(order))
 }
 
+/// The quotient that a presentation is, or why it isn't seen to be right, where it is known how many elements it has, or
+/// why that isn't seen: then a position is looked for at which the rule fails.
+fn settled<A: SmallAllocator + Copy>(
+    alloc: A,
+    said: Presented<A>,
+    least: bool,
+    order: Result<Option<usize>, InfiniteRefusal<A>>,
+) -> Result<PresentedQuotient<A>, InfiniteRefusal<A>>
+    requires ranges { IsInRanges said }
+    requires in_form { IsInForm said }
+    requires least { IsTrue least → IsLeast said }
+    requires yes { IfOk order (λ q. Presents said × IsOrder said q) }
+    requires no { IfErr order (λ r. Fits said (refused r)) }
+    ensures same { IfOk result (λ q. q.said ≡ said) }
+    ensures right { IfOk result IsRight }
+    ensures no { IfErr result (λ r. Fits said (refused r)) }
+{
+    match order {
+        Ok(order) => {
+            if !least {
+                return Err(InfiniteRefusal::Undecided);
+            }
+            Ok(PresentedQuotient::new(said, order))
+        }
+        Err(InfiniteRefusal::Undecided) => Err(broken(alloc, &said)),
+        Err(refusal) => Err(refusal),
+    }
+}
+
+/// The quotient that a presentation of the heaps of a list is.
+fn judged_list<A: SmallAllocator + Copy>(
+    alloc: A,
+    said: Presented<A>,
+    least: bool,
+) -> Result<PresentedQuotient<A>, InfiniteRefusal<A>>
+    requires ranges { IsInRanges said }
+    requires in_form { IsInForm said }
+    requires least { IsTrue least → IsLeast said }
+    ensures same { IfOk result (λ q. q.said ≡ said) }
+    ensures right { IfOk result IsRight }
+    ensures no { IfErr result (λ r. Fits said (refused r)) }
+{
+    let order = order_of(alloc, &said);
+    settled(alloc, said, least, order)
+}
+
+/// The quotient that a presentation of a whole game is: as many heaps as are enough are looked at.
+fn judged_whole<A: SmallAllocator + Copy>(
+    alloc: A,
+    said: Presented<A>,
+    least: bool,
+) -> Result<PresentedQuotient<A>, InfiniteRefusal<A>>
+    requires ranges { IsInRanges said }
+    requires in_form { IsInForm said }
+    requires least { IsTrue least → IsLeast said }
+    requires whole { 0 < said.period }
+    ensures same { IfOk result (λ q. q.said ≡ said) }
+    ensures right { IfOk result IsRight }
+    ensures no { IfErr result (λ r. Fits said (refused r)) }
+{
+    match unroll(alloc, said) {
+        Ok(Some(whole)) => {
+            let order = order_of(alloc, &whole.said);
+            settled(alloc, roll(whole), least, order)
+        }
+        Ok(None) => Err(InfiniteRefusal::Limit),
+        Err(_) => Err(InfiniteRefusal::Memory),
+    }
+}
+
 /// The quotient that a presentation is, if it is seen to be right.
 fn judged<A: SmallAllocator + Copy>(
     alloc: A,
@@ -241,15 +313,10 @@ fn judged<A: SmallAllocator + Copy>(
     }
     let least = is_least(&text);
     let said = with_basis(alloc, text)?;
-    match order_of(alloc, &said) {
-        Ok(order) => {
-            if !least {
-                return Err(InfiniteRefusal::Undecided);
-            }
-            Ok(PresentedQuotient::new(said, order))
-        }
-        Err(InfiniteRefusal::Undecided) => Err(broken(alloc, &said)),
-        Err(refusal) => Err(refusal),
+    if said.period == 0 {
+        judged_list(alloc, said, least)
+    } else {
+        judged_whole(alloc, said, least)
     }
 }
 

@@ -48,6 +48,13 @@ impl<A: Allocator> PresentedQuotient<A> {
         self.said.heaps
     }
 
+    /// After how many heaps words repeat, or 0 if no heaps count but those that have words of their own. It takes no memory.
+    pub fn period(&self) -> u16
+        ensures { result ≡ self.now.said.period }
+    {
+        self.said.period
+    }
+
     /// How many relations there are. It takes no memory.
     pub fn relations(&self) -> usize
         ensures { result ≡ length self.now.said.relations }

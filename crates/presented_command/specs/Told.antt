@@ -1,5 +1,5 @@
 -- What is said of a presentation: the text that is printed, and whether that is a yes. This project's own.
-use Rattle.std.specs.Prelude.{◌≡◌, ◌≤◌, ◌++◌, ℕ, Option, Some, None, Bool, true, false, List, length, codes, decimal}
+use Rattle.std.specs.Prelude.{◌≡◌, ◌≤◌, ◌++◌, ◌+◌, ◌-◌, ◌==◌, if◌then◌else◌, ℕ, Option, Some, None, Bool, true, false, List, length, codes, decimal}
 use Rattle.octal_code.specs.Text.{code_text}
 use Rattle.certificate_text.specs.declared.TheConstants.{LONGEST_TEXT}
 use Rattle.presented_text.specs.Said.{PresentedSaid}
@@ -8,18 +8,22 @@ use Rattle.presented_checker.specs.Refused.{Kept, IsRight, IsTrueOfBytes}
 use Rattle.infinite_answers.specs.Answers.{Why}
 use Rattle.given_quotients.specs.Told.{IsRefusalText}
 
--- The line of a presentation that is right: the code, how many elements the quotient has, and the last heap that has a
--- word of its own.
+-- The heaps: the last one that has a word of its own; or in a whole game the heap from which on words repeat, and after
+-- how many heaps they do.
+abbrev pub heaps_text : PresentedSaid → List ℕ
+heaps_text c =
+    if c.period == 0 then codes "heaps " ++ decimal c.heaps
+    else codes "start " ++ decimal (c.heaps - c.period + 1) ++ codes " period " ++ decimal c.period
+
+-- The line of a presentation that is right: the code, how many elements the quotient has, and the heaps.
 abbrev pub finite_line : PresentedSaid → ℕ → List ℕ
 finite_line c q =
-    codes "yes " ++ code_text c.code ++ codes " order " ++ decimal q ++ codes " heaps " ++ decimal c.heaps ++ codes "\n"
+    codes "yes " ++ code_text c.code ++ codes " order " ++ decimal q ++ codes " " ++ heaps_text c ++ codes "\n"
 
--- The line of one with infinitely many elements: the code, the last heap that has a word of its own, and how many relations
--- there are.
+-- The line of one with infinitely many elements: the code, the heaps, and how many relations there are.
 abbrev pub endless_line : PresentedSaid → ℕ → List ℕ
 endless_line c n =
-    codes "infinite " ++ code_text c.code ++ codes " heaps " ++ decimal c.heaps ++ codes " relations " ++ decimal n
-    ++ codes "\n"
+    codes "infinite " ++ code_text c.code ++ codes " " ++ heaps_text c ++ codes " relations " ++ decimal n ++ codes "\n"
 
 -- the one or the other
 abbrev pub line_by : PresentedSaid → Option ℕ → List ℕ

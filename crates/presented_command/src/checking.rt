@@ -1,7 +1,8 @@
 //! What is said of bytes that begin as a presentation does.
-ghost use Rattle.std.specs.Prelude.{◌≡◌, ◌↔◌, ◌++◌, ℕ, List, codes, IfOk, IsTrue};
+ghost use Rattle.std.specs.Prelude.{◌≡◌, ◌↔◌, ◌++◌, ◌+◌, ◌-◌, ℕ, List, codes, IfOk, IsTrue};
 ghost use Rattle.std.specs.String.{string_bytes};
 ghost use Rattle.presented_command.specs.Told.{BeginsPresented, TellsPresented, finite_line, endless_line, presented_line};
+ghost use Rattle.presented_command.specs.Told as told;
 
 use allocation::Memory;
 use certificate_text::LONGEST_TEXT;
@@ -10,13 +11,35 @@ use given_quotients::refusal_text;
 use presented_checker::{PresentedQuotient, check_presented};
 use std::alloc::Global;
 
+/// The heap from which on the words of a whole game repeat.
+fn start_of(quotient: &PresentedQuotient) -> u32
+    ensures { result ≡ quotient.now.said.heaps - quotient.now.said.period + 1 }
+{
+    quotient.heaps().saturating_sub(quotient.period()) as u32 + 1
+}
+
+/// The heaps: the last one that has a word of its own, or in a whole game where and how words repeat.
+fn heaps_text(alloc: Global, quotient: &PresentedQuotient) -> Result<String, Memory>
+    ensures { IfOk result (λ t. string_bytes t ≡ told.heaps_text quotient.now.said) }
+{
+    let period = quotient.period();
+    if period == 0 {
+        let heaps = quotient.heaps();
+        let text = format!(in alloc; "heaps {heaps}")?;
+        return Ok(text);
+    }
+    let start = start_of(quotient);
+    let text = format!(in alloc; "start {start} period {period}")?;
+    Ok(text)
+}
+
 /// The line of a presentation with finitely many elements.
 fn finite_text(alloc: Global, quotient: &PresentedQuotient, order: usize) -> Result<String, Memory>
     ensures { IfOk result (λ t. string_bytes t ≡ finite_line quotient.now.said order) }
 {
     let code = quotient.code().text(alloc)?;
-    let heaps = quotient.heaps();
-    let text = format!(in alloc; "yes {code} order {order} heaps {heaps}\n")?;
+    let heaps = heaps_text(alloc, quotient)?;
+    let text = format!(in alloc; "yes {code} order {order} {heaps}\n")?;
     Ok(text)
 }
 
@@ -29,8 +52,8 @@ fn endless_text(
     ensures { IfOk result (λ t. string_bytes t ≡ endless_line quotient.now.said relations) }
 {
     let code = quotient.code().text(alloc)?;
-    let heaps = quotient.heaps();
-    let text = format!(in alloc; "infinite {code} heaps {heaps} relations {relations}\n")?;
+    let heaps = heaps_text(alloc, quotient)?;
+    let text = format!(in alloc; "infinite {code} {heaps} relations {relations}\n")?;
     Ok(text)
 }
 

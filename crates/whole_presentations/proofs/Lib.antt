@@ -1,0 +1,5 @@
+pub mod Shifts
+pub mod Twins
+pub mod Lists
+pub mod Whole
+pub mod Forms
