@@ -8,14 +8,18 @@ use Rattle.answers.specs.ByteVerdicts.{IsTrueOf}
 use Rattle.answers.specs.ByteVerdicts.ByteVerdict.{Memory, Yes}
 use Rattle.check_machine.specs.Turns.{verdict}
 use Rattle.check_command.specs.Checks.{IsFrontOf, IsYes, SaysVerdict}
-use Rattle.given_quotients.specs.Told.{BeginsWhole, TellsWhole}
+use Rattle.given_quotients.specs.Told.{BeginsWhole, BeginsPresented}
 use Rattle.given_quotients.specs.Given.{FindsQuotient, JudgesQuotient, RefusesBy}
 use Rattle.given_quotients.specs.declared.giving.Quotient.{Quotient}
-use Rattle.given_quotients.specs.declared.giving.Quotient.TheVariants.{Finite, Whole}
+use Rattle.given_quotients.specs.declared.giving.Quotient.TheVariants.{Finite, Whole, Presented}
 
 -- long bytes are no text of a whole game
 no_long : (bytes : List ℕ) → 4194304 < length bytes → BeginsWhole bytes → ⊥
 no_long bytes long begins = let short = begins.0 in omega (arith, long, short)
+
+-- nor a presentation
+no_long_presented : (bytes : List ℕ) → 4194304 < length bytes → BeginsPresented bytes → ⊥
+no_long_presented bytes long begins = let short = begins.0 in omega (arith, long, short)
 
 -- Verdicts are true, and that of the front is that of all.
 module _ (laws : (bytes : List ℕ) (limit : ℕ) → IsTrueOf bytes limit (verdict bytes limit)
@@ -45,11 +49,17 @@ module _ (laws : (bytes : List ℕ) (limit : ℕ) → IsTrueOf bytes limit (verd
       → verdict front limit ≡ verdict bytes limit → 4194304 < length front → 4194304 < length bytes
       → JudgesQuotient front limit q → JudgesQuotient bytes limit q
   judges_longer bytes front limit (Ok (Finite c)) e long more given =
-      (no_long bytes more, yes_of bytes front limit c e given.1)
+      (no_long bytes more, no_long_presented bytes more, yes_of bytes front limit c e given.1.1)
   judges_longer bytes front limit (Ok (Whole c)) e long more given = absurd (no_long front long given.0)
+  judges_longer bytes front limit (Ok (Presented k)) e long more given =
+      absurd (no_long_presented front long given.0)
   judges_longer bytes front limit (Err text) e long more refused = record {
     whole = λ begins. absurd (no_long bytes more begins);
-    finite = λ _. says_of bytes front limit text.items e (refused.finite (no_long front long));
+    presented = λ begins. absurd (no_long_presented bytes more begins);
+    finite =
+        λ _ _.
+        says_of bytes front limit text.items e
+        (refused.finite (no_long front long) (no_long_presented front long));
   }
 
   -- what is found by the front is found by all

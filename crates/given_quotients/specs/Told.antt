@@ -1,4 +1,5 @@
--- What is said of a text of a whole game, and of a refusal: the text that is printed. This project's own.
+-- What is said of a text of a whole game, or of a presentation, and of a refusal: the text that is printed. This project's
+-- own.
 use Rattle.std.specs.Prelude.{◌≡◌, ◌≤◌, ◌++◌, ℕ, Bool, true, false, List, length, codes}
 use Rattle.octal_code.specs.Text.{code_text}
 use Rattle.certificate_text.specs.declared.TheConstants.{LONGEST_TEXT}
@@ -8,6 +9,7 @@ use Rattle.answers.specs.ByteVerdicts.ByteVerdict.{Outcome as Refuted}
 use Rattle.infinite_answers.specs.Answers.{Why, Text, Law, Order, Outcome, Limit, Memory, Part, Idle, Undecided, Ray}
 use Rattle.verdict_texts.specs.Lines.{IsTextOf, no_line}
 use Rattle.whole_checker.specs.Solved.{IsSolved, IsRefutedWhole}
+use Rattle.presented_checker.specs.Refused.{IsTrueOfBytes}
 
 -- the line of a whole game that is solved
 abbrev pub whole_line : List ℕ → List ℕ
@@ -39,3 +41,14 @@ pub data TellsWhole (bytes : List ℕ) : List ℕ → Bool → Type 0 where
       → IsSolved c → text ≡ whole_line c.code → accepted ≡ true → TellsWhole bytes text accepted
   Refused : {text : List ℕ} {accepted : Bool} (why : Why) → IsRefutedWhole bytes why
       → IsRefusalText why text → accepted ≡ false → TellsWhole bytes text accepted
+
+-- The bytes are no more than a text has, and begin as those of presentations do.
+abbrev pub BeginsPresented : List ℕ → Type 0
+BeginsPresented bytes =
+    (length bytes ≤ LONGEST_TEXT) × ((rest : List ℕ) × (bytes ≡ codes "mqp " ++ rest))
+
+-- The text is that of a refusal that is true of the bytes of a presentation.
+pub record TellsRefused (bytes text : List ℕ) : Type 0 where
+  pub why : Why
+  pub true_of : IsTrueOfBytes bytes why
+  pub told : IsRefusalText why text

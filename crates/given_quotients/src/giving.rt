@@ -3,6 +3,7 @@ ghost use Rattle.std.specs.Prelude.{◌≡◌, false, IfOk, IfErr, is_none, is_s
 ghost use Rattle.check_command.specs.Checks.{AreGiven, IsGivenCause, Judges, failed};
 ghost use Rattle.given_quotients.specs.Given.{FindsQuotient, JudgesQuotient};
 
+use crate::presented::{begins_presented, judged_presented};
 use crate::whole::{begins_whole, judged_whole};
 use allocation::Memory;
 use answers::Certified;
@@ -10,6 +11,7 @@ use check_command::{fronts_decide, given_bytes};
 use checker::{check, verdicts_are_true};
 use command_results::Stop;
 use folders::Folder;
+use presented_checker::PresentedQuotient;
 use std::alloc::Global;
 use streams::Source;
 use verdict_texts::verdict_text;
@@ -22,6 +24,8 @@ pub enum Quotient {
     Finite(Certified),
     /// That of a whole game in which one heap may rule all others.
     Whole(WholeGame),
+    /// One that generators and relations present.
+    Presented(PresentedQuotient),
 }
 
 /// Checks the bytes under the limit: their finite quotient, or else the text of a no.
@@ -40,13 +44,19 @@ fn judged_finite(
     Ok(Err(text.into_bytes()))
 }
 
-/// Checks the bytes: as a text of a whole game by their first word, or else as a certificate.
+/// Checks the bytes: as a text of a whole game, or as a presentation, by their first word, or else as a certificate.
 fn judged(alloc: Global, bytes: &[u8], limit: u32) -> Result<Result<Quotient, Vec<u8>>, Memory>
     ensures { IfOk result (JudgesQuotient bytes.now limit) }
 {
     if begins_whole(bytes) {
         return match judged_whole(alloc, bytes)? {
             Ok(game) => Ok(Ok(Quotient::Whole(game))),
+            Err(no) => Ok(Err(no)),
+        };
+    }
+    if begins_presented(bytes) {
+        return match judged_presented(alloc, bytes)? {
+            Ok(quotient) => Ok(Ok(Quotient::Presented(quotient))),
             Err(no) => Ok(Err(no)),
         };
     }
@@ -58,7 +68,7 @@ fn judged(alloc: Global, bytes: &[u8], limit: u32) -> Result<Result<Quotient, Ve
 
 /// Checks the text in the file, or on standard input where no file is named, under the limit: the
 /// quotient that it gives, or else the text of a no. A text whose first word is `mqw` is that of a whole
-/// game, and every other is read as a certificate. Whichever of the two isn't read is left alone.
+/// game, one whose first word is `mqp` a presentation, and every other is read as a certificate. Whichever of the two isn't read is left alone.
 pub fn quotient_of<'a, F: Folder, S: Source>(
     alloc: Global,
     file: Option<&'a str>,

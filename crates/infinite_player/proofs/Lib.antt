@@ -1,4 +1,4 @@
-mod Apart
+pub mod Apart
 mod Folded
 mod InPlane
 mod Inside

@@ -1,7 +1,8 @@
 //! Presentations that are checked: Nim with heaps of 1 and 2, the code 0.33 up to heap 2. Its quotient is
 //! ⟨a, b | a² = 1, b³ = b⟩, and its P-portion {a, b²} (Plambeck and Siegel).
+use given_quotients::begins_presented;
 use presented_checker::check_presented;
-use presented_command::{begins_presented, presented_said};
+use presented_command::presented_said;
 use std::alloc::Global;
 
 /// What is said of a text, if memory allows.

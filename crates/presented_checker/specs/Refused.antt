@@ -6,7 +6,7 @@ use Rattle.misere_theory.specs.Parts.{IsInfinite}
 use Rattle.presentations.specs.declared.TheConstants.{LETTERS}
 use Rattle.normal_forms.specs.Reductions.{AreConvergent}
 use Rattle.normal_forms.specs.Forms.{NormalForms}
-use Rattle.presented_text.specs.Said.{PresentedSaid}
+use Rattle.presented_text.specs.Said.{PresentedSaid, IsInRanges}
 use Rattle.presented_text.specs.Spelling.{SpellsPresented}
 use Rattle.presented_claims.specs.Claims.{claim_of}
 use Rattle.presented_claims.specs.Presents.{Presents}
@@ -40,8 +40,9 @@ pub record IsAccepted (c : PresentedSaid) : Type 0 where
   pub in_form : IsInForm c
   pub least : IsLeast c
 
--- The same of what is kept, and it has the order that is kept.
+-- The same of what is kept, whose numbers are in their ranges, and it has the order that is kept.
 pub record IsRight (k : Kept) : Type 0 where
+  pub ranges : IsInRanges k.said
   pub accepted : IsAccepted k.said
   pub order : IsOrder k.said k.order
 

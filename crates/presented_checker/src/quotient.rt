@@ -34,6 +34,14 @@ impl<A: Allocator> PresentedQuotient<A> {
         PresentedQuotient { said, order }
     }
 
+    /// What it says. It takes no memory.
+    pub fn said(&self) -> &Presented<A>
+        ensures value { result.now ≡ self.now.said }
+        ensures right { IsRight self.now }
+    {
+        &self.said
+    }
+
     /// The code of the game. It takes no memory.
     pub fn code(&self) -> &Code
         ensures { result.now ≡ self.now.said.code }

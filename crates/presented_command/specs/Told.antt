@@ -1,12 +1,10 @@
 -- What is said of a presentation: the text that is printed, and whether that is a yes. This project's own.
-use Rattle.std.specs.Prelude.{◌≡◌, ◌≤◌, ◌++◌, ◌+◌, ◌-◌, ◌==◌, if◌then◌else◌, ℕ, Option, Some, None, Bool, true, false, List, length, codes, decimal}
+use Rattle.std.specs.Prelude.{◌≡◌, ◌++◌, ◌+◌, ◌-◌, ◌==◌, if◌then◌else◌, ℕ, Option, Some, None, Bool, true, false, List, length, codes, decimal}
 use Rattle.octal_code.specs.Text.{code_text}
-use Rattle.certificate_text.specs.declared.TheConstants.{LONGEST_TEXT}
 use Rattle.presented_text.specs.Said.{PresentedSaid}
 use Rattle.presented_text.specs.Spelling.{SpellsPresented}
-use Rattle.presented_checker.specs.Refused.{Kept, IsRight, IsTrueOfBytes}
-use Rattle.infinite_answers.specs.Answers.{Why}
-use Rattle.given_quotients.specs.Told.{IsRefusalText}
+use Rattle.presented_checker.specs.Refused.{Kept, IsRight}
+use Rattle.given_quotients.specs.Told.{TellsRefused}
 
 -- The heaps: the last one that has a word of its own; or in a whole game the heap from which on words repeat, and after
 -- how many heaps they do.
@@ -33,15 +31,10 @@ line_by c None = endless_line c (length c.relations)
 abbrev pub presented_line : Kept → List ℕ
 presented_line k = line_by k.said k.order
 
--- The bytes are no more than a text has, and begin as those of presentations do.
-abbrev pub BeginsPresented : List ℕ → Type 0
-BeginsPresented bytes =
-    (length bytes ≤ LONGEST_TEXT) × ((rest : List ℕ) × (bytes ≡ codes "mqp " ++ rest))
-
 -- The text is that of an answer which is true of the bytes, and a yes exactly if the answer is one: they spell a
 -- presentation that is right, or they are refused.
 pub data TellsPresented (bytes : List ℕ) : List ℕ → Bool → Type 0 where
   Yes : {text : List ℕ} {accepted : Bool} (k : Kept) → SpellsPresented bytes k.said → IsRight k
       → text ≡ presented_line k → accepted ≡ true → TellsPresented bytes text accepted
-  No : {text : List ℕ} {accepted : Bool} (why : Why) → IsTrueOfBytes bytes why
-      → IsRefusalText why text → accepted ≡ false → TellsPresented bytes text accepted
+  No : {text : List ℕ} {accepted : Bool} → TellsRefused bytes text → accepted ≡ false
+      → TellsPresented bytes text accepted

@@ -1,14 +1,13 @@
 //! What is said of bytes that begin as a presentation does.
-ghost use Rattle.std.specs.Prelude.{◌≡◌, ◌↔◌, ◌++◌, ◌+◌, ◌-◌, ℕ, List, codes, IfOk, IsTrue};
+ghost use Rattle.std.specs.Prelude.{◌≡◌, ◌+◌, ◌-◌, IfOk};
 ghost use Rattle.std.specs.String.{string_bytes};
-ghost use Rattle.presented_command.specs.Told.{BeginsPresented, TellsPresented, finite_line, endless_line, presented_line};
+ghost use Rattle.presented_command.specs.Told.{TellsPresented, finite_line, endless_line, presented_line};
 ghost use Rattle.presented_command.specs.Told as told;
 
 use allocation::Memory;
-use certificate_text::LONGEST_TEXT;
 use command_results::Said;
-use given_quotients::refusal_text;
-use presented_checker::{PresentedQuotient, check_presented};
+use given_quotients::judged_presented;
+use presented_checker::PresentedQuotient;
 use std::alloc::Global;
 
 /// The heap from which on the words of a whole game repeat.
@@ -67,32 +66,15 @@ fn yes_text(alloc: Global, quotient: &PresentedQuotient) -> Result<String, Memor
     }
 }
 
-/// Whether the bytes begin with the first word of such texts.
-fn has_first_word(bytes: &[u8]) -> bool
-    ensures { IsTrue result ↔ ((rest : List ℕ) × (bytes.now ≡ codes "mqp " ++ rest)) }
-{
-    bytes.starts_with(b"mqp ")
-}
-
-/// Whether the bytes begin as presentations do, and aren't too many.
-pub fn begins_presented(bytes: &[u8]) -> bool
-    ensures { IsTrue result ↔ BeginsPresented bytes.now }
-{
-    bytes.len() <= LONGEST_TEXT && has_first_word(bytes)
-}
-
 /// What is said of the bytes: the line of the quotient, or the text of a no.
 pub fn presented_said(alloc: Global, bytes: &[u8]) -> Result<Said, Memory>
     ensures { IfOk result (λ s. TellsPresented bytes.now s.text.items s.succeeds) }
 {
-    match check_presented(alloc, bytes) {
+    match judged_presented(alloc, bytes)? {
         Ok(quotient) => {
             let text = yes_text(alloc, &quotient)?;
             Ok(Said::done(text))
         }
-        Err(refusal) => {
-            let text = refusal_text(alloc, refusal)?;
-            Ok(Said::no(text.into_bytes()))
-        }
+        Err(no) => Ok(Said::no(no)),
     }
 }

@@ -3,4 +3,4 @@
 
 mod checking;
 
-pub use checking::{begins_presented, presented_said};
+pub use checking::presented_said;

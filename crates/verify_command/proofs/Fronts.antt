@@ -11,7 +11,8 @@ use Rattle.infinite_command.specs.Told.{TellsEither}
 use Rattle.infinite_command.proofs.Given.{tells_all}
 use Rattle.misere_theory.specs.Certificates.{Certificate}
 use Rattle.certificate_text.specs.Spelling.{Spells}
-use Rattle.presented_command.specs.Told.{BeginsPresented, TellsPresented}
+use Rattle.given_quotients.specs.Told.{BeginsPresented}
+use Rattle.presented_command.specs.Told.{TellsPresented}
 use Rattle.verify_command.specs.Verifies.{BeginsInfinite, SaysOfAny, Verifies}
 
 -- a front of four bytes and more begins as all bytes do

@@ -2,7 +2,8 @@
 use Rattle.std.specs.Prelude.{◌≡◌, ◌⊎◌, ◌++◌, ℕ, Bool, List, codes}
 use Rattle.check_command.specs.Checks.{SaysVerdict}
 use Rattle.infinite_command.specs.Told.{TellsEither}
-use Rattle.presented_command.specs.Told.{BeginsPresented, TellsPresented}
+use Rattle.given_quotients.specs.Told.{BeginsPresented}
+use Rattle.presented_command.specs.Told.{TellsPresented}
 
 -- The bytes begin as a text of an infinite quotient does, or as one of a whole game.
 abbrev pub BeginsInfinite : List ℕ → Type 0

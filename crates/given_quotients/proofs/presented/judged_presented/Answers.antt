@@ -1,0 +1,16 @@
+use Rattle.std.proofs.Common.{rules, subst, sym, ◌≡◌, List, ℕ}
+use Rattle.std.specs.String.{string_bytes}
+use Rattle.infinite_answers.specs.Refusals.{refused}
+use Rattle.given_quotients.specs.Told.{IsRefusalText}
+use Rattle.given_quotients.proofs.presented.judged_presented.Goals as goal
+
+pub returns : goal.returns
+returns c =
+    let same : c.into_bytes.result.items ≡ string_bytes c.in_ok-text.text = search rules in
+    record {
+      why = refused c.in-Err.refusal;
+      true_of = c.in-Err.ensures.no;
+      told =
+          subst (λ (t : List ℕ). IsRefusalText (refused c.in-Err.refusal) t) (sym same)
+          c.in_ok-text.ensures;
+    }

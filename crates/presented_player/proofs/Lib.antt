@@ -1,0 +1,4 @@
+mod Counts
+mod Splits
+mod Labels
+mod Enough

@@ -1,0 +1,8 @@
+use Rattle.presented_player.proofs.Labels.{alike}
+use Rattle.presented_player.proofs.telling.presented_apart.Goals as goal
+
+pub returns-then-are_same : goal.returns-then-are_same
+returns-then-are_same g c =
+    alike c.args.quotient.now c.said.ensures.right c.args.first.now c.args.second.now c.presented_form-x.result
+    c.presented_form-y.result c.requires.first c.requires.second c.presented_form-x.ensures c.presented_form-y.ensures
+    (c.are_same.ensures.0 c.if-are_same.true)

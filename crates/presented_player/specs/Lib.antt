@@ -1,0 +1,4 @@
+pub mod Wide
+pub mod Plays
+pub mod Forms
+pub mod Told
