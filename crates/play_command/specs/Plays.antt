@@ -8,9 +8,11 @@ use Rattle.player.specs.Answers.{IsRightAnswer, IsTriedAnswer, SpeaksOf}
 use Rattle.player.specs.declared.answering.Answer.{Answer}
 use Rattle.check_command.specs.Checks.{Failed, IsGivenCause}
 use Rattle.dominance_text.specs.Said.{DominanceSaid}
+use Rattle.presented_checker.specs.Refused.{Kept}
+use Rattle.presented_player.specs.Plays.{SpeaksOf as HasWordsOf}
 use Rattle.given_quotients.specs.Given.{Gives, Refuses}
 use Rattle.given_quotients.specs.declared.giving.Quotient.{Quotient}
-use Rattle.given_quotients.specs.declared.giving.Quotient.TheVariants.{Finite, Whole}
+use Rattle.given_quotients.specs.declared.giving.Quotient.TheVariants.{Finite, Whole, Presented}
 use Rattle.command_results.specs.declared.stop.Stop.{Stop}
 use Rattle.command_results.specs.declared.stop.Stop.TheVariants.{Memory, NotAPosition}
 use Rattle.play_command.specs.Lines.{answer_line, beyond_line}
@@ -35,10 +37,22 @@ abbrev pub AnswersWhole : DominanceSaid → List ℕ → List ℕ → Type 0
 AnswersWhole c X text =
     (answer : Answer) × IsTriedAnswer c.code (λ _. c.start - 1) X answer × (text ≡ answer_line answer)
 
+-- The line of the answer in the position by a presentation: a move is the first that wins of those whose parts but the
+-- largest are heaps of the list.
+abbrev pub AnswersPresented : Kept → List ℕ → List ℕ → Type 0
+AnswersPresented k X text =
+    (answer : Answer) × IsTriedAnswer k.said.code (λ _. k.said.heaps) X answer × (text ≡ answer_line answer)
+
+-- the answer where the presentation speaks of the position, and else that it doesn't
+abbrev pub PlaysPresented : Kept → List ℕ → List ℕ → Bool → Type 0
+PlaysPresented k X text true = HasWordsOf k X × AnswersPresented k X text
+PlaysPresented k X text false = (HasWordsOf k X → ⊥) × (text ≡ beyond_line)
+
 -- what is said in the position by the quotient; a whole game speaks of each
 abbrev pub PlaysIn : Quotient → List ℕ → List ℕ → Bool → Type 0
 PlaysIn (Finite c) X text succeeds = PlaysFinite c X text succeeds
 PlaysIn (Whole c) X text succeeds = AnswersWhole c X text × (succeeds ≡ true)
+PlaysIn (Presented k) X text succeeds = PlaysPresented k X text succeeds
 
 -- the same where a quotient was found, and the text of a no where none was
 abbrev pub PlaysFound : {A : Type 0} → Result Quotient (Vec ℕ A) → List ℕ → List ℕ → Bool → Type 0

@@ -3,8 +3,9 @@ ghost use Rattle.std.specs.Prelude.{◌≡◌, ◌≤◌, true, false, IfOk, IfE
 ghost use Rattle.check_command.specs.Checks.{AreGiven, failed};
 ghost use Rattle.positions.specs.Text.{IsTextOf};
 ghost use Rattle.player.specs.Answers.{SpeaksOf};
+ghost use Rattle.presented_player.specs.Plays.{SpeaksOf as HasWordsOf};
 ghost use Rattle.play_command.specs.Lines.{beyond_line};
-ghost use Rattle.play_command.specs.Plays.{AnswersIn, AnswersWhole, IsPlayCause, IsPositionCause, Plays, PlaysFinite, PlaysFound, PlaysIn};
+ghost use Rattle.play_command.specs.Plays.{AnswersIn, AnswersPresented, AnswersWhole, IsPlayCause, IsPositionCause, Plays, PlaysFinite, PlaysFound, PlaysIn, PlaysPresented};
 
 use crate::lines::{answer_text, beyond_text};
 use answers::Certified;
@@ -14,6 +15,8 @@ use given_quotients::{Quotient, quotient_of};
 use infinite_player::whole_answer;
 use player::{answer, fits};
 use positions::{Position, PositionFault};
+use presented_checker::PresentedQuotient;
+use presented_player::{presented_answer, presented_fits};
 use std::alloc::{AllocError, Global};
 use streams::Source;
 use whole_checker::WholeGame;
@@ -79,6 +82,35 @@ pub fn whole_played(
     Ok(Said::done(text))
 }
 
+/// The line of the answer in the position, of which the presentation speaks.
+fn presented_answered(
+    alloc: Global,
+    quotient: &PresentedQuotient,
+    position: &Position,
+) -> Result<Said, AllocError>
+    requires { HasWordsOf quotient.now position.now }
+    ensures answered { IfOk result (λ s. AnswersPresented quotient.now position.now s.text.items) }
+    ensures succeeds { IfOk result (λ s. s.succeeds ≡ true) }
+{
+    let text = answer_text(alloc, presented_answer(quotient, position))?;
+    Ok(Said::done(text))
+}
+
+/// The same, or that the presentation doesn't speak of the position.
+fn presented_played(
+    alloc: Global,
+    quotient: &PresentedQuotient,
+    position: &Position,
+) -> Result<Said, AllocError>
+    ensures { IfOk result (λ s. PlaysPresented quotient.now position.now s.text.items s.succeeds) }
+{
+    if presented_fits(quotient, position) {
+        presented_answered(alloc, quotient, position)
+    } else {
+        beyond(alloc)
+    }
+}
+
 /// What is said in the position by the quotient.
 pub(crate) fn played(
     alloc: Global,
@@ -90,6 +122,7 @@ pub(crate) fn played(
     match quotient {
         Quotient::Finite(certified) => finite_played(alloc, certified, position),
         Quotient::Whole(game) => whole_played(alloc, game, position),
+        Quotient::Presented(quotient) => presented_played(alloc, quotient, position),
     }
 }
 
@@ -110,8 +143,8 @@ fn said_in(
 /// Answers in the position by the quotient that the file, or standard input where no file is named, gives
 /// under the limit: with the first winning move, that each move loses, or that there is none; or says that
 /// a partial quotient doesn't speak of the position, or why there is none. Of a whole game, which speaks of
-/// every position, the first is meant of the moves that leave at most one heap from start on. The position
-/// is read first.
+/// every position, the first is meant of the moves that leave at most one heap from start on, and by a
+/// presentation, of those whose parts but the largest are heaps of its list. The position is read first.
 pub fn play<'a, F: Folder, S: Source>(
     alloc: Global,
     file: Option<&'a str>,

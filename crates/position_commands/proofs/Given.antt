@@ -3,6 +3,7 @@ use Rattle.std.proofs.Common.{ℕ, Bool, false, List, Result, Ok, Err, Vec, inl,
 use Rattle.misere_theory.specs.Certificates.{Certificate}
 use Rattle.check_command.specs.Checks.{Finds, Checks}
 use Rattle.dominance_text.specs.Said.{DominanceSaid}
+use Rattle.presented_checker.specs.Refused.{Kept}
 use Rattle.given_quotients.specs.Given.{FindsQuotient, Refuses}
 use Rattle.given_quotients.specs.declared.giving.Quotient.{Quotient}
 use Rattle.position_commands.specs.Said.{SaysFound, SaysFoundOf, SaysGiven, SaysGivenOf}
@@ -17,10 +18,10 @@ says_found Speaks Answers Are limit (Err said) text succeeds f h =
     inr (subst (λ (t : List ℕ). Checks Are limit t false) (sym h.0) f, h.1)
 
 pub says_found_of : {A : Type 0} (InFinite : Certificate → List ℕ → Bool → Type 0)
-    (InWhole : DominanceSaid → List ℕ → Bool → Type 0) (Are : List ℕ → Type 0) (limit : ℕ)
-    (q : Result Quotient (Vec ℕ A)) (text : List ℕ) (succeeds : Bool)
-    → FindsQuotient Are limit q → SaysFoundOf InFinite InWhole q text succeeds
-    → SaysGivenOf InFinite InWhole Are limit text succeeds
-says_found_of InFinite InWhole Are limit (Ok q) text succeeds f h = inl (q, f, h)
-says_found_of InFinite InWhole Are limit (Err said) text succeeds f h =
+    (InWhole : DominanceSaid → List ℕ → Bool → Type 0) (ByForms : Kept → List ℕ → Bool → Type 0)
+    (Are : List ℕ → Type 0) (limit : ℕ) (q : Result Quotient (Vec ℕ A)) (text : List ℕ) (succeeds : Bool)
+    → FindsQuotient Are limit q → SaysFoundOf InFinite InWhole ByForms q text succeeds
+    → SaysGivenOf InFinite InWhole ByForms Are limit text succeeds
+says_found_of InFinite InWhole ByForms Are limit (Ok q) text succeeds f h = inl (q, f, h)
+says_found_of InFinite InWhole ByForms Are limit (Err said) text succeeds f h =
     inr (subst (λ (t : List ℕ). Refuses Are limit t) (sym h.0) f, h.1)

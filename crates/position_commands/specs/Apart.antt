@@ -6,6 +6,11 @@ use Rattle.positions.specs.Outcomes.{HasOutcome}
 use Rattle.positions.specs.declared.outcome.Outcome.{Outcome}
 use Rattle.dominance_text.specs.Said.{DominanceSaid}
 use Rattle.infinite_player.specs.Told.{AreApartBy, IsHeavy}
+use Rattle.play_command.specs.Lines.{beyond_line}
+use Rattle.presented_checker.specs.Refused.{Kept}
+use Rattle.presented_player.specs.Plays.{SpeaksOf}
+use Rattle.presented_tables.specs.Tested.{HasWord}
+use Rattle.presented_player.specs.Told.{AreApartBy as AreToldBy}
 use Rattle.position_commands.specs.Lines.{alike_line, apart_line, heavy_line, untried_line}
 
 -- X and Y are indistinguishable, and the text says so. Or Z tells them apart: the outcomes of X + Z and
@@ -29,3 +34,14 @@ pub data SaysApartOfWhole (c : DominanceSaid) (X Y text : List ℕ) (succeeds : 
       → SaysApartOfWhole c X Y text succeeds
   Heavy : IsHeavy c X ⊎ IsHeavy c Y → text ≡ heavy_line → succeeds ≡ false
       → SaysApartOfWhole c X Y text succeeds
+
+-- The same by a presentation. Or it doesn't speak of one of them, and the text says so.
+pub data SaysApartOfPresented (k : Kept) (X Y text : List ℕ) (succeeds : Bool) : Type 0 where
+  Alike : Indistinguishable (HasWord k.said) k.said.code X Y → text ≡ alike_line → succeeds ≡ true
+      → SaysApartOfPresented k X Y text succeeds
+  Apart : (Z : List ℕ) (first second : Outcome) → AreToldBy k X Y Z first second
+      → text ≡ apart_line Z first second → succeeds ≡ true → SaysApartOfPresented k X Y text succeeds
+  Untried : (Indistinguishable (HasWord k.said) k.said.code X Y → ⊥) → text ≡ untried_line → succeeds ≡ true
+      → SaysApartOfPresented k X Y text succeeds
+  Beyond : (SpeaksOf k X × SpeaksOf k Y → ⊥) → text ≡ beyond_line → succeeds ≡ false
+      → SaysApartOfPresented k X Y text succeeds

@@ -1,6 +1,9 @@
 -- What is printed of positions. This project's own.
 use Rattle.std.specs.Prelude.{ℕ, List, ◌++◌, codes, decimal, if◌then◌else◌}
 use Rattle.dominance.specs.Triples.{Triple}
+use Rattle.presentations.specs.declared.TheConstants.{LETTERS}
+use Rattle.relations.specs.declared.text.Notation.TheVariants.{Plain}
+use Rattle.relations.specs.Printed.{word_text}
 use Rattle.positions.specs.Text.{position_text}
 use Rattle.positions.specs.declared.outcome.Outcome.{Outcome}
 use Rattle.positions.specs.declared.outcome.Outcome.TheVariants.{P, N}
@@ -13,6 +16,10 @@ outcome_letter N = codes "N"
 abbrev pub value_line : ℕ → Outcome → List ℕ → List ℕ
 value_line e outcome sizes = codes "element " ++ decimal e ++ codes " " ++ outcome_letter outcome
     ++ codes " " ++ position_text sizes ++ codes "\n"
+
+-- an element by its word, and its outcome
+abbrev pub form_line : List ℕ → Outcome → List ℕ
+form_line w outcome = codes "element " ++ word_text Plain LETTERS w ++ codes " " ++ outcome_letter outcome ++ codes "\n"
 
 -- a triple, and its outcome
 abbrev pub triple_line : Triple → Outcome → List ℕ

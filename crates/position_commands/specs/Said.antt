@@ -9,11 +9,12 @@ use Rattle.command_results.specs.declared.stop.Stop.TheVariants.{NotAPosition}
 use Rattle.play_command.specs.Lines.{beyond_line}
 use Rattle.play_command.specs.Plays.{IsNoPosition}
 use Rattle.dominance_text.specs.Said.{DominanceSaid}
+use Rattle.presented_checker.specs.Refused.{Kept}
 use Rattle.given_quotients.specs.Given.{Gives, Refuses}
 use Rattle.given_quotients.specs.declared.giving.Quotient.{Quotient}
-use Rattle.given_quotients.specs.declared.giving.Quotient.TheVariants.{Finite, Whole}
-use Rattle.position_commands.specs.Apart.{SaysApart, SaysApartOfWhole}
-use Rattle.position_commands.specs.Values.{TellsValue, TellsWholeValue}
+use Rattle.given_quotients.specs.declared.giving.Quotient.TheVariants.{Finite, Whole, Presented}
+use Rattle.position_commands.specs.Apart.{SaysApart, SaysApartOfWhole, SaysApartOfPresented}
+use Rattle.position_commands.specs.Values.{TellsValue, TellsWholeValue, TellsForm}
 use Rattle.position_commands.specs.Wins.{TellsWins}
 
 -- `Speaks` says of a certificate that it speaks of the positions that are asked about, and `Answers` that
@@ -37,12 +38,14 @@ module _ (Speaks : Certificate → Type 0) (Answers : Certificate → List ℕ �
       ((c : Certificate) × Certifies Are limit c × SaysBy c text succeeds)
       ⊎ (Checks Are limit text false × (succeeds ≡ false))
 
--- `InFinite` and `InWhole` say what is said by a quotient of either kind.
+-- `InFinite`, `InWhole` and `ByForms` say what is said by a quotient of each kind.
 module _ (InFinite : Certificate → List ℕ → Bool → Type 0)
-    (InWhole : DominanceSaid → List ℕ → Bool → Type 0) where
+    (InWhole : DominanceSaid → List ℕ → Bool → Type 0)
+    (ByForms : Kept → List ℕ → Bool → Type 0) where
   abbrev pub SaysOf : Quotient → List ℕ → Bool → Type 0
   SaysOf (Finite c) text succeeds = InFinite c text succeeds
   SaysOf (Whole c) text succeeds = InWhole c text succeeds
+  SaysOf (Presented k) text succeeds = ByForms k text succeeds
 
   -- the same if a quotient was found, and the text of a no if none was
   abbrev pub SaysFoundOf : {A : Type 0} → Result Quotient (Vec ℕ A) → List ℕ → Bool → Type 0
@@ -60,7 +63,7 @@ abbrev pub AsksValue : (List ℕ → Type 0) → ℕ → List ℕ → List ℕ �
 AsksValue Are limit position text succeeds =
     (X : List ℕ) × IsTextOf position X
     × SaysGivenOf (λ c. SaysBy (λ d. SpeaksOf d X) (λ d t s. TellsValue d X t × (s ≡ true)) c)
-    (λ c. TellsWholeValue c X) Are limit text succeeds
+    (λ c. TellsWholeValue c X) (λ k. TellsForm k X) Are limit text succeeds
 
 -- all winning moves in it, by a finite quotient
 abbrev pub AsksWins : (List ℕ → Type 0) → ℕ → List ℕ → List ℕ → Bool → Type 0
@@ -74,7 +77,7 @@ AsksOfTwo Are limit first second text succeeds =
     (X Y : List ℕ) × IsTextOf first X × IsTextOf second Y
     × SaysGivenOf
     (λ c. SaysBy (λ d. SpeaksOf d X × SpeaksOf d Y) (λ d t s. SaysApart d X Y t × (s ≡ true)) c)
-    (λ c. SaysApartOfWhole c X Y) Are limit text succeeds
+    (λ c. SaysApartOfWhole c X Y) (λ k. SaysApartOfPresented k X Y) Are limit text succeeds
 
 -- a certificate isn't read, for its own cause, or one of the words is no position
 abbrev pub IsApartCause : Option (List ℕ) → List ℕ → List ℕ → Failed → Failed → Stop → Type 0

@@ -9,7 +9,11 @@ use Rattle.dominance.specs.Triples.{triple_of}
 use Rattle.dominance_text.specs.Said.{DominanceSaid}
 use Rattle.dominance_text.specs.Labels.{label_of}
 use Rattle.infinite_player.specs.Told.{IsHeavy}
-use Rattle.position_commands.specs.Lines.{heavy_line, triple_line, value_line}
+use Rattle.presented_checker.specs.Refused.{Kept}
+use Rattle.presented_player.specs.Forms.{IsFormOf}
+use Rattle.presented_player.specs.Plays.{SpeaksOf}
+use Rattle.play_command.specs.Lines.{beyond_line}
+use Rattle.position_commands.specs.Lines.{form_line, heavy_line, triple_line, value_line}
 
 -- the text has the element of the position X, the outcome of X, and the position that the keys of the
 -- element spell
@@ -26,3 +30,10 @@ pub data TellsWholeValue (c : DominanceSaid) (X text : List ℕ) (succeeds : Boo
       → text ≡ triple_line (triple_of (label_of c) X) outcome → succeeds ≡ true
       → TellsWholeValue c X text succeeds
   Heavy : IsHeavy c X → text ≡ heavy_line → succeeds ≡ false → TellsWholeValue c X text succeeds
+
+-- By a presentation: the text has the normal form of the position X and the outcome of X. Or the presentation doesn't speak
+-- of X, and the text says so.
+pub data TellsForm (k : Kept) (X text : List ℕ) (succeeds : Bool) : Type 0 where
+  Form : (w : List ℕ) (outcome : Outcome) → IsFormOf k.said X w → HasOutcome k.said.code X outcome
+      → text ≡ form_line w outcome → succeeds ≡ true → TellsForm k X text succeeds
+  Beyond : (SpeaksOf k X → ⊥) → text ≡ beyond_line → succeeds ≡ false → TellsForm k X text succeeds

@@ -3,12 +3,13 @@ ghost use Rattle.std.specs.Prelude.{◌≡◌, IfOk};
 ghost use Rattle.std.specs.String.{string_bytes};
 ghost use Rattle.infinite_player.specs.Values.{triple_told};
 ghost use Rattle.positions.specs.Text.{position_text};
-ghost use Rattle.position_commands.specs.Lines.{alike_line, apart_line, heavy_line, many_line, outcome_letter, triple_line, untried_line, value_line};
+ghost use Rattle.position_commands.specs.Lines.{alike_line, apart_line, form_line, heavy_line, many_line, outcome_letter, triple_line, untried_line, value_line};
 
 use allocation::Memory;
 use infinite_player::WholeValue;
 use player::Outcome;
 use positions::Position;
+use presented_player::{WideWord, form_text as word_text};
 use std::alloc::{AllocError, Global};
 
 fn letter(outcome: Outcome) -> &'static str
@@ -18,6 +19,15 @@ fn letter(outcome: Outcome) -> &'static str
         Outcome::P => "P",
         Outcome::N => "N",
     }
+}
+
+/// The line of an element by its word, and its outcome.
+pub(crate) fn form_text(alloc: Global, form: &WideWord, outcome: Outcome) -> Result<String, Memory>
+    ensures { IfOk result (λ t. string_bytes t ≡ form_line form.now outcome) }
+{
+    let (word, letter) = (word_text(alloc, form)?, letter(outcome));
+    let text = format!(in alloc; "element {word} {letter}\n")?;
+    Ok(text)
 }
 
 /// The line of an element, its outcome and a position of this value.

@@ -6,7 +6,7 @@ ghost use Rattle.misere_theory.specs.Quotients.{value};
 ghost use Rattle.check_command.specs.Checks.{AreGiven, failed};
 ghost use Rattle.player.specs.Answers.{SpeaksOf};
 ghost use Rattle.positions.specs.Outcomes.{HasOutcome};
-ghost use Rattle.position_commands.specs.Apart.{SaysApart, SaysApartOfWhole};
+ghost use Rattle.position_commands.specs.Apart.{SaysApart, SaysApartOfPresented, SaysApartOfWhole};
 ghost use Rattle.position_commands.specs.Said.{AsksOfTwo, IsApartCause, SaysBy, SaysFoundOf};
 
 use crate::lines::{alike_text, apart_text, heavy_text, untried_text};
@@ -19,6 +19,8 @@ use infinite_player::{Separation, whole_apart};
 use play_command::{beyond, position_of};
 use player::{Outcome, fits, value};
 use positions::Position;
+use presented_checker::PresentedQuotient;
+use presented_player::{presented_apart, presented_fits};
 use std::alloc::Global;
 use streams::Source;
 use whole_checker::WholeGame;
@@ -117,6 +119,28 @@ fn whole_said(
     }
 }
 
+/// What is said of the two positions by a presentation.
+fn presented_said(
+    alloc: Global,
+    quotient: &PresentedQuotient,
+    first: &Position,
+    second: &Position,
+) -> Result<Said, Memory>
+    ensures { IfOk result
+        (λ s. SaysApartOfPresented quotient.now first.now second.now s.text.items s.succeeds) }
+{
+    if !presented_fits(quotient, first) || !presented_fits(quotient, second) {
+        let said = beyond(alloc)?;
+        return Ok(said);
+    }
+    match presented_apart(alloc, quotient, first, second)? {
+        Separation::Nothing => Ok(Said::done(alike_text(alloc)?)),
+        Separation::By(third, one, other) => Ok(Said::done(apart_text(alloc, &third, one, other)?)),
+        Separation::Untried => Ok(Said::done(untried_text(alloc)?)),
+        Separation::Heavy => Ok(Said::no(heavy_text(alloc)?.into_bytes())),
+    }
+}
+
 /// What is said of the two positions by what was found.
 fn said_in(
     alloc: Global,
@@ -128,19 +152,21 @@ fn said_in(
         (λ s. SaysFoundOf
         (λ c. SaysBy (λ d. SpeaksOf d first.now × SpeaksOf d second.now)
         (λ d t b. SaysApart d first.now second.now t × (b ≡ true)) c)
-        (λ c. SaysApartOfWhole c first.now second.now) found s.text.items s.succeeds) }
+        (λ c. SaysApartOfWhole c first.now second.now)
+        (λ k. SaysApartOfPresented k first.now second.now) found s.text.items s.succeeds) }
 {
     match found {
         Ok(Quotient::Finite(certified)) => finite_said(alloc, &certified, first, second),
         Ok(Quotient::Whole(game)) => whole_said(alloc, &game, first, second),
+        Ok(Quotient::Presented(quotient)) => presented_said(alloc, &quotient, first, second),
         Err(no) => Ok(Said::no(no)),
     }
 }
 
 /// Says whether two positions are indistinguishable by the quotient that the file, or standard input where
 /// no file is named, gives under the limit. If they aren't, it names a third position beside which their
-/// outcomes differ: by a finite quotient one of as few heaps as can be, and in a whole game one that is
-/// tried, or that none of these does. Or it says that a partial quotient doesn't speak of one of them, or why
+/// outcomes differ: by a finite quotient one of as few heaps as can be, and in a whole game and by a
+/// presentation one that is tried, or that none of these does. Or it says that a partial quotient doesn't speak of one of them, or why
 /// there is none. The positions are read first.
 pub fn apart<'a, F: Folder, S: Source>(
     alloc: Global,

@@ -4,9 +4,9 @@ ghost use Rattle.check_command.specs.Checks.{AreGiven, failed};
 ghost use Rattle.play_command.specs.Plays.{IsPlayCause};
 ghost use Rattle.player.specs.Answers.{SpeaksOf};
 ghost use Rattle.position_commands.specs.Said.{AsksValue, SaysBy, SaysFoundOf};
-ghost use Rattle.position_commands.specs.Values.{TellsValue, TellsWholeValue};
+ghost use Rattle.position_commands.specs.Values.{TellsForm, TellsValue, TellsWholeValue};
 
-use crate::lines::{heavy_text, triple_text, value_text};
+use crate::lines::{form_text, heavy_text, triple_text, value_text};
 use allocation::Memory;
 use answers::Certified;
 use command_results::{Said, Stop};
@@ -16,6 +16,8 @@ use infinite_player::{whole_outcome, whole_value};
 use play_command::{beyond, position_of};
 use player::{fits, outcome, value as element_of};
 use positions::Position;
+use presented_checker::PresentedQuotient;
+use presented_player::{presented_fits, presented_form, presented_outcome};
 use std::alloc::Global;
 use streams::Source;
 use whole_checker::WholeGame;
@@ -55,6 +57,23 @@ fn whole_said(alloc: Global, game: &WholeGame, position: &Position) -> Result<Sa
     Ok(Said::done(text))
 }
 
+/// The line of the position's normal form, of which the presentation speaks; or that it doesn't.
+fn presented_said(
+    alloc: Global,
+    quotient: &PresentedQuotient,
+    position: &Position,
+) -> Result<Said, Memory>
+    ensures { IfOk result (λ s. TellsForm quotient.now position.now s.text.items s.succeeds) }
+{
+    if !presented_fits(quotient, position) {
+        let said = beyond(alloc)?;
+        return Ok(said);
+    }
+    let form = presented_form(quotient, position);
+    let text = form_text(alloc, &form, presented_outcome(quotient, position))?;
+    Ok(Said::done(text))
+}
+
 /// What is said of the position by what was found.
 fn said_in(
     alloc: Global,
@@ -64,18 +83,19 @@ fn said_in(
     ensures { IfOk result
         (λ s. SaysFoundOf
         (λ c. SaysBy (λ d. SpeaksOf d position.now) (λ d t b. TellsValue d position.now t × (b ≡ true)) c)
-        (λ c. TellsWholeValue c position.now) found s.text.items s.succeeds) }
+        (λ c. TellsWholeValue c position.now) (λ k. TellsForm k position.now) found s.text.items s.succeeds) }
 {
     match found {
         Ok(Quotient::Finite(certified)) => finite_said(alloc, &certified, position),
         Ok(Quotient::Whole(game)) => whole_said(alloc, &game, position),
+        Ok(Quotient::Presented(quotient)) => presented_said(alloc, &quotient, position),
         Err(no) => Ok(Said::no(no)),
     }
 }
 
 /// Says of the position its element in the quotient that the file, or standard input where no file is named,
 /// gives under the limit, and its outcome: a number and a position of that element for a finite quotient,
-/// and for a whole game a triple. Or it says that a partial quotient doesn't speak of the position, or why
+/// for a whole game a triple, and by a presentation a word. Or it says that a partial quotient doesn't speak of the position, or why
 /// there is none. The position is read first.
 pub fn value<'a, F: Folder, S: Source>(
     alloc: Global,

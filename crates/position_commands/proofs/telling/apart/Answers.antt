@@ -7,5 +7,5 @@ returns-in-Ok-clause-asks g c = (
   _,
   c.in_ok-first.ensures.read,
   c.in_ok-second.ensures.read,
-  says_found_of _ _ _ c.args.limit _ _ _ c.in_ok-found.ensures.found c.in-Ok.ensures,
+  says_found_of _ _ _ _ c.args.limit _ _ _ c.in_ok-found.ensures.found c.in-Ok.ensures,
 )
