@@ -67,6 +67,10 @@ module _ {T : Type 0} (code : List ℕ) (f : ℕ → T) (k start period : ℕ) (
         }
   ]
 
+  three_same : {x y z a b d : ℕ} → f x ≡ f a → f y ≡ f b → f z ≡ f d
+      → map f (x ∷ y ∷ z ∷ []) ≡ map f (a ∷ b ∷ d ∷ [])
+  three_same e g h = ap₂ (λ v vs. v ∷ vs) e (ap₂ (λ v w. v ∷ w ∷ []) g h)
+
   module _ (n : ℕ) where
     two_like : (j a b : ℕ) → 1 ≤ a → a ≤ b → n ≡ j + (a + b) → IsBitSet (digit code j) 2
         → SmallLike code f (start + period) n (a ∷ b ∷ [])
@@ -99,8 +103,7 @@ module _ {T : Type 0} (code : List ℕ) (f : ℕ → T) (k start period : ℕ) (
         let two_sum = two.sum in let two_up = two.rising in let two_some = two.some in
         let two_small = two.small in let two_down = two.lower in
         let same : map f (one.low ∷ two.low ∷ two.high ∷ []) ≡ map f (a ∷ b ∷ d ∷ []) =
-        ap₂ (λ v vs. v ∷ vs) one.low_same
-        (ap₂ (λ v w. v ∷ w ∷ []) two.low_same (two.high_same ∙ one.high_same)) in
+        three_same one.low_same two.low_same (two.high_same ∙ one.high_same) in
         let option : HeapOption code n (one.low ∷ two.low ∷ two.high ∷ []) =
         Three j one.low two.low two.high one_some two_some (omega arith) (omega arith) s in
         elim (dec_le one.low two.low) [
@@ -111,7 +114,7 @@ module _ {T : Type 0} (code : List ℕ) (f : ℕ → T) (k start period : ℕ) (
             small = (l, two_up, one_small, two_small);
             other = one.low ∷ two.low ∷ two.high ∷ [];
             other_option = option;
-            shuffled = Same;
+            shuffled = Same {X = one.low ∷ two.low ∷ two.high ∷ []};
             like = same;
           }
           | no g ↦

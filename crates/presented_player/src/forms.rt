@@ -1,5 +1,5 @@
 //! Normal forms of positions.
-ghost use Rattle.std.specs.Prelude.{◌≡◌, ◌×◌, ◌+◌, ◌≤◌, ◌<◌, ℕ, slice_index};
+ghost use Rattle.std.specs.Prelude.{◌≡◌, ◌+◌, ◌≤◌, ◌<◌, ℕ, slice_index};
 ghost use Rattle.misere_theory.specs.Games.{IsPosition};
 ghost use Rattle.presentations.specs.declared.TheConstants.{LETTERS};
 ghost use Rattle.presentations.specs.Vectors.{plus};
@@ -37,7 +37,7 @@ fn heap_word<A: Allocator>(p: &Presented<A>, n: u64) -> WideWord
 {
     match p.word(n) {
         Some(word) => widened(&word),
-        None => [0; LETTERS],
+        None => widened(&[0u16; LETTERS]),
     }
 }
 

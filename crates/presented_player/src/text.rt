@@ -1,5 +1,5 @@
 //! The text of a word with large exponents.
-ghost use Rattle.std.specs.Prelude.{◌≡◌, ◌<◌, IfOk};
+ghost use Rattle.std.specs.Prelude.{◌≡◌, ◌<◌, ◌≤◌, IfOk};
 ghost use Rattle.std.specs.String.{string_bytes};
 ghost use Rattle.presentations.specs.declared.TheConstants.{LETTERS};
 ghost use Rattle.relations.specs.declared.text.Notation.TheVariants.{Plain};
@@ -26,14 +26,28 @@ fn factor_text(alloc: Global, letter: u8, exponent: u128) -> Result<String, Allo
     Ok(text)
 }
 
-/// The factors of all letters.
-fn factors_text(alloc: Global, word: &WideWord) -> Result<String, AllocError>
-    ensures { IfOk result (λ t. string_bytes t ≡ factors_text Plain LETTERS word.now) }
+/// The factors of the first letters.
+fn factors_text(alloc: Global, letters: u8, word: &WideWord) -> Result<String, AllocError>
+    requires { letters ≤ LETTERS }
+    ensures { IfOk result (λ t. string_bytes t ≡ factors_text Plain letters word.now) }
 {
     let mut text = String::new(alloc);
-    for letter in 0..LETTERS as u8 {
+    for letter in 0..letters {
         let factor = factor_text(alloc, letter, word[letter as usize])?;
         text.push_str(factor.as_str())?;
+    }
+    Ok(text)
+}
+
+/// The factors of the first letters, or 1 if there are none.
+fn product_text(alloc: Global, letters: u8, word: &WideWord) -> Result<String, AllocError>
+    requires { letters ≤ LETTERS }
+    ensures { IfOk result (λ t. string_bytes t ≡ word_text Plain letters word.now) }
+{
+    let text = factors_text(alloc, letters, word)?;
+    if text.len() == 0 {
+        let one = format!(in alloc; "1")?;
+        return Ok(one);
     }
     Ok(text)
 }
@@ -42,10 +56,5 @@ fn factors_text(alloc: Global, word: &WideWord) -> Result<String, AllocError>
 pub fn form_text(alloc: Global, word: &WideWord) -> Result<String, AllocError>
     ensures { IfOk result (λ t. string_bytes t ≡ word_text Plain LETTERS word.now) }
 {
-    let text = factors_text(alloc, word)?;
-    if text.len() == 0 {
-        let one = format!(in alloc; "1")?;
-        return Ok(one);
-    }
-    Ok(text)
+    product_text(alloc, LETTERS as u8, word)
 }
