@@ -1,4 +1,4 @@
-pub mod Apart
+mod Apart
 mod Folded
 mod InPlane
 mod Inside

@@ -2,3 +2,4 @@ mod Counts
 mod Splits
 mod Labels
 mod Enough
+mod Outcomes

@@ -1,7 +1,9 @@
-use Rattle.std.proofs.Common.{subst, sym}
+use Rattle.std.proofs.Common.{subst}
 use Rattle.presentations.specs.declared.TheConstants.{LETTERS}
+use Rattle.presentations.specs.Vectors.{plus}
+use Rattle.normal_forms.specs.Forms.{IsNormalForm}
 use Rattle.presented_text.specs.Said.{PresentedSaid}
-use Rattle.presented_player.specs.Forms.{IsFormIfShort}
+use Rattle.presented_player.specs.Wide.{AreSmall}
 use Rattle.presented_player.proofs.Labels.{sum-label, word-of-heap}
 use Rattle.presented_player.proofs.labelling.ByFormsLabelling.times.Goals as goal
 
@@ -9,5 +11,10 @@ pub returns : goal.returns
 returns g c = λ X Y a b.
     let k = c.args.self.now.quotient.now in
     let right = c.said.ensures.right in
-    sum-label k.said right.accepted.presents.converges (word-of-heap k right) X Y c.args.x c.args.y c.times.result
-    c.times.ensures.form c.times.ensures.few a b
+    let x = c.args.x in
+    let y = c.args.y in
+    let r = c.times.result in
+    sum-label k.said right.accepted.presents.converges (word-of-heap k right) X Y x y r
+    (subst (λ (p : PresentedSaid). AreSmall x → AreSmall y → IsNormalForm LETTERS p.relations (plus x y) r)
+    c.said.ensures.value c.times.ensures.form)
+    c.times.ensures.few a b
