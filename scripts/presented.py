@@ -97,6 +97,41 @@ class Presentation:
             in self.portion
         )
 
+    def form(self, word: Word) -> Word:
+        """The normal form of a word."""
+        for left, right in self.relations:
+            if divides(left, word):
+                return self.form(tuple(n - i + j for n, i, j in zip(word, left, right)))
+        return word
+
+    def rows(self, elements: list[Word]) -> list[list[int]]:
+        """The products of all elements, by their numbers; a word comes after those with a letter less."""
+        number = {word: at for at, word in enumerate(elements)}
+        count = len(self.letters)
+        plus = [[number[self.form((*w[:i], w[i] + 1, *w[i + 1 :]))] for i in range(count)] for w in elements]
+        columns = [list(range(len(elements)))]
+        for word in elements[1:]:
+            i = next(i for i, n in enumerate(word) if n)
+            before = columns[number[(*word[:i], word[i] - 1, *word[i + 1 :])]]
+            columns.append([plus[at][i] for at in before])
+        return columns
+
+    def table(self, most: int) -> str:
+        """The quotient as a table, as `misere certify` reads it, if it has no more elements than so many and each heap has
+        a word."""
+        elements = sorted(self.standard_words(most), key=rank)
+        number = {word: at for at, word in enumerate(elements)}
+        heaps = [number[self.form(it)] for it in self.words if it is not None]
+        lines = [
+            f"table 1\ncode {self.code}\norder {len(elements)}",
+            f"start {len(self.words) - self.period + 1}\nperiod {self.period}",
+            "heaps " + " ".join(map(str, heaps)),
+            "portion " + " ".join(str(at) for at, word in enumerate(elements) if self.is_p(word)),
+            *("row " + " ".join(map(str, row)) for row in self.rows(elements)),
+            "end",
+        ]
+        return "\n".join(lines) + "\n"
+
     def says(self, most: int) -> tuple[object, ...]:
         """All that it says: two of these are equal if the texts say the same in the same letters."""
         portion = frozenset(filter(self.is_p, self.standard_words(most)))
