@@ -117,8 +117,8 @@ class Presentation:
         return columns
 
     def table(self, most: int) -> str:
-        """The quotient as a table, as `misere certify` reads it, if it has no more elements than so many and each heap has
-        a word."""
+        """The quotient as a table, as `misere certify` reads it, if it has no more elements than so many and each heap
+        has a word."""
         elements = sorted(self.standard_words(most), key=rank)
         number = {word: at for at, word in enumerate(elements)}
         heaps = [number[self.form(it)] for it in self.words if it is not None]
