@@ -1,6 +1,7 @@
 -- A presentation as one object of JSON. This project's own.
 use Rattle.std.specs.Prelude.{ℕ, zero, suc, ◌+◌, List, [], ◌++◌, Option, Some, None, length, slice_index, slice_index_or, codes, decimal, encode_utf8}
 use Rattle.octal_code.specs.Text.{code_text}
+use Rattle.presentations.specs.declared.TheConstants.{LETTERS}
 use Rattle.presented_text.specs.Said.{PresentedSaid}
 use Rattle.relations.specs.declared.text.Notation.TheVariants.{Json}
 use Rattle.presented_descriptions.specs.Lists.{front, relations_text, words_text, heap_words_text}
@@ -50,12 +51,12 @@ monoid_pieces generators relations portion cycles =
 
 abbrev pub monoid_json : PresentedSaid → List ℕ
 monoid_json c =
-    monoid_pieces (generators_in c.letters (length c.letters)) (relations_text Json [] (codes ",") c.relations)
-    (words_text Json [] (codes ",") c.portion) (cycles_in c.cycles (length c.cycles))
+    monoid_pieces (generators_in c.letters (length c.letters)) (relations_text Json LETTERS [] (codes ",") c.relations)
+    (words_text Json LETTERS [] (codes ",") c.portion) (cycles_in c.cycles (length c.cycles))
 
 -- the word of each heap of the list
 abbrev pub words_json : PresentedSaid → List ℕ
-words_json c = codes ",\"words\":[" ++ heap_words_text Json [] (codes ",") c.words ++ codes "]}\n"
+words_json c = codes ",\"words\":[" ++ heap_words_text Json LETTERS [] (codes ",") c.words ++ codes "]}\n"
 
 -- the object
 abbrev pub json_text : PresentedSaid → Option ℕ → List ℕ

@@ -1,6 +1,7 @@
 -- A presentation for LaTeX, as `describe` prints a finite quotient. This project's own.
 use Rattle.std.specs.Prelude.{ℕ, zero, suc, ◌+◌, ◌-◌, ◌==◌, List, [], ◌++◌, Option, Some, None, length, slice_index, slice_index_or, if◌then◌else◌, codes, decimal, encode_utf8}
 use Rattle.octal_code.specs.Text.{code_text}
+use Rattle.presentations.specs.declared.TheConstants.{LETTERS}
 use Rattle.presented_text.specs.Said.{PresentedSaid}
 use Rattle.relations.specs.declared.text.Notation.TheVariants.{Latex}
 use Rattle.presented_descriptions.specs.Lists.{front, letters_text, relations_text, words_text, heap_words_text}
@@ -18,14 +19,14 @@ head_pieces index code letters relations =
 abbrev pub head_latex : PresentedSaid → List ℕ
 head_latex c =
     head_pieces (index_latex c) (code_text c.code) (letters_text [] (codes ",") (length c.letters))
-    (relations_text Latex [] (codes "$, $") c.relations)
+    (relations_text Latex LETTERS [] (codes "$, $") c.relations)
 
 -- the words of the portion
 abbrev pub portion_pieces : List ℕ → List ℕ → List ℕ
 portion_pieces index words = codes "$\\mathcal{P}" ++ index ++ codes "=\\{" ++ words ++ codes "\\}$\\\\\n"
 
 abbrev pub portion_latex : PresentedSaid → List ℕ
-portion_latex c = portion_pieces (index_latex c) (words_text Latex [] (codes "$, $") c.portion)
+portion_latex c = portion_pieces (index_latex c) (words_text Latex LETTERS [] (codes "$, $") c.portion)
 
 -- a letter, from which exponent on the portion repeats along it, and after how many
 abbrev pub cycle_pieces : List ℕ → ℕ → ℕ → ℕ → List ℕ
@@ -52,7 +53,7 @@ order_latex (Some q) = decimal q
 abbrev pub count_pieces : List ℕ → List ℕ → ℕ → ℕ → List ℕ
 count_pieces index order relations portion =
     codes "$|\\mathcal{Q}" ++ index ++ codes "|=" ++ order ++ codes "$, relations $" ++ decimal relations
-    ++ codes "$, words of $\\mathcal{P}" ++ index ++ codes "$ $" ++ decimal portion ++ codes "$\\\\\n"
+    ++ codes "$, portion $" ++ decimal portion ++ codes "$\\\\\n"
 
 abbrev pub count_latex : PresentedSaid → Option ℕ → List ℕ
 count_latex c order = count_pieces (index_latex c) (order_latex order) (length c.relations) (length c.portion)
@@ -71,7 +72,7 @@ generators_latex c = codes "generators" ++ generators_in c.letters (length c.let
 
 -- the word of each heap of the list
 abbrev pub heaps_latex : PresentedSaid → List ℕ
-heaps_latex c = codes "heaps $" ++ heap_words_text Latex [] (codes "$, $") c.words ++ codes "$\\\\\n"
+heaps_latex c = codes "heaps $" ++ heap_words_text Latex LETTERS [] (codes "$, $") c.words ++ codes "$\\\\\n"
 
 -- which heap is the last one, or how the words repeat
 abbrev pub tail_latex : PresentedSaid → List ℕ

@@ -1,6 +1,7 @@
 -- A presentation in lines. This project's own form, after the tables of Plambeck and Siegel.
 use Rattle.std.specs.Prelude.{ℕ, zero, suc, ◌+◌, ◌-◌, ◌==◌, List, [], ◌++◌, Option, Some, None, length, slice_index, slice_index_or, if◌then◌else◌, codes, decimal, encode_utf8}
 use Rattle.octal_code.specs.Text.{code_text}
+use Rattle.presentations.specs.declared.TheConstants.{LETTERS}
 use Rattle.presented_text.specs.Said.{PresentedSaid}
 use Rattle.relations.specs.declared.text.Notation.TheVariants.{Plain}
 use Rattle.presented_descriptions.specs.Lists.{letters_text, relations_text, words_text, heap_words_text}
@@ -18,14 +19,14 @@ head_pieces index code letters relations =
 abbrev pub head_line : PresentedSaid → List ℕ
 head_line c =
     head_pieces (index_text c) (code_text c.code) (letters_text (codes " ") (codes ",") (length c.letters))
-    (relations_text Plain (codes " ") (codes ", ") c.relations)
+    (relations_text Plain LETTERS (codes " ") (codes ", ") c.relations)
 
 -- the words of the portion
 abbrev pub portion_pieces : List ℕ → List ℕ → List ℕ
 portion_pieces index words = codes "P" ++ index ++ codes " = {" ++ words ++ codes " }\n"
 
 abbrev pub portion_line : PresentedSaid → List ℕ
-portion_line c = portion_pieces (index_text c) (words_text Plain (codes " ") (codes ", ") c.portion)
+portion_line c = portion_pieces (index_text c) (words_text Plain LETTERS (codes " ") (codes ", ") c.portion)
 
 -- a letter, from which exponent on the portion repeats along it, and after how many
 abbrev pub cycle_text : ℕ → ℕ × ℕ → List ℕ
@@ -65,7 +66,7 @@ generators_line c = codes "generators" ++ generators_in c.letters (length c.lett
 
 -- the word of each heap of the list
 abbrev pub heaps_line : PresentedSaid → List ℕ
-heaps_line c = codes "heaps" ++ heap_words_text Plain (codes " ") (codes " ") c.words ++ codes "\n"
+heaps_line c = codes "heaps" ++ heap_words_text Plain LETTERS (codes " ") (codes " ") c.words ++ codes "\n"
 
 -- which heap is the last one, or how the words repeat
 abbrev pub tail_line : PresentedSaid → List ℕ

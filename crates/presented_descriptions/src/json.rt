@@ -6,6 +6,7 @@ ghost use Rattle.presented_descriptions.specs.Json.{cycle_json, cycle_pieces, cy
 
 use crate::lists::{all_three, front, heap_words_text, name, relations_text, words_text};
 use allocation::Memory;
+use presentations::LETTERS;
 use presented_tables::Presented;
 use presented_text::LetterCycle;
 use relations::Notation;
@@ -153,8 +154,22 @@ fn monoid_json<A: Allocator>(alloc: Global, said: &Presented<A>) -> Result<Strin
     ensures { IfOk result (λ t. string_bytes t ≡ monoid_json said.now) }
 {
     let generators = generators_text(alloc, said.letters.as_slice())?;
-    let relations = relations_text(alloc, Notation::Json, "", ",", said.basis.rules())?;
-    let portion = words_text(alloc, Notation::Json, "", ",", said.portion.as_slice())?;
+    let relations = relations_text(
+        alloc,
+        Notation::Json,
+        LETTERS as u8,
+        "",
+        ",",
+        said.basis.rules(),
+    )?;
+    let portion = words_text(
+        alloc,
+        Notation::Json,
+        LETTERS as u8,
+        "",
+        ",",
+        said.portion.as_slice(),
+    )?;
     let cycles = cycles_text(alloc, said.cycles.as_slice())?;
     monoid_pieces(
         alloc,
@@ -169,7 +184,14 @@ fn monoid_json<A: Allocator>(alloc: Global, said: &Presented<A>) -> Result<Strin
 fn words_json<A: Allocator>(alloc: Global, said: &Presented<A>) -> Result<String, AllocError>
     ensures { IfOk result (λ t. string_bytes t ≡ words_json said.now) }
 {
-    let words = heap_words_text(alloc, Notation::Json, "", ",", said.words.as_slice())?;
+    let words = heap_words_text(
+        alloc,
+        Notation::Json,
+        LETTERS as u8,
+        "",
+        ",",
+        said.words.as_slice(),
+    )?;
     let text = format!(in alloc; ",\"words\":[{words}]}}\n")?;
     Ok(text)
 }

@@ -9,6 +9,7 @@ use crate::lists::{
 };
 use crate::plain::start_of;
 use allocation::Memory;
+use presentations::LETTERS;
 use presented_tables::Presented;
 use presented_text::LetterCycle;
 use relations::Notation;
@@ -51,7 +52,14 @@ fn head_latex<A: Allocator>(alloc: Global, said: &Presented<A>) -> Result<String
     let index = index_latex(alloc, said)?;
     let code = said.code.text(alloc)?;
     let letters = letters_text(alloc, "", ",", said.letters.len())?;
-    let relations = relations_text(alloc, Notation::Latex, "", "$, $", said.basis.rules())?;
+    let relations = relations_text(
+        alloc,
+        Notation::Latex,
+        LETTERS as u8,
+        "",
+        "$, $",
+        said.basis.rules(),
+    )?;
     let text = head_pieces(
         alloc,
         index.as_str(),
@@ -75,7 +83,14 @@ fn portion_latex<A: Allocator>(alloc: Global, said: &Presented<A>) -> Result<Str
     ensures { IfOk result (λ t. string_bytes t ≡ portion_latex said.now) }
 {
     let index = index_latex(alloc, said)?;
-    let words = words_text(alloc, Notation::Latex, "", "$, $", said.portion.as_slice())?;
+    let words = words_text(
+        alloc,
+        Notation::Latex,
+        LETTERS as u8,
+        "",
+        "$, $",
+        said.portion.as_slice(),
+    )?;
     portion_pieces(alloc, index.as_str(), words.as_str())
 }
 
@@ -157,7 +172,7 @@ fn count_pieces(
         (λ t. string_bytes t ≡ count_pieces index.now order.now relations portion) }
 {
     let text = format!(in alloc;
-        "$|\\mathcal{{Q}}{index}|={order}$, relations ${relations}$, words of $\\mathcal{{P}}{index}$ ${portion}$\\\\\n"
+        "$|\\mathcal{{Q}}{index}|={order}$, relations ${relations}$, portion ${portion}$\\\\\n"
     )?;
     Ok(text)
 }
@@ -213,7 +228,14 @@ fn generators_latex<A: Allocator>(alloc: Global, said: &Presented<A>) -> Result<
 fn heaps_latex<A: Allocator>(alloc: Global, said: &Presented<A>) -> Result<String, AllocError>
     ensures { IfOk result (λ t. string_bytes t ≡ heaps_latex said.now) }
 {
-    let words = heap_words_text(alloc, Notation::Latex, "", "$, $", said.words.as_slice())?;
+    let words = heap_words_text(
+        alloc,
+        Notation::Latex,
+        LETTERS as u8,
+        "",
+        "$, $",
+        said.words.as_slice(),
+    )?;
     let text = format!(in alloc; "heaps ${words}$\\\\\n")?;
     Ok(text)
 }

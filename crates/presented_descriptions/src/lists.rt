@@ -1,8 +1,9 @@
 //! Lists of letters, words and relations in texts.
-ghost use Rattle.std.specs.Prelude.{◌≡◌, ◌≤◌, ◌<◌, ◌+◌, ◌++◌, IfOk, encode_utf8};
+ghost use Rattle.std.specs.Prelude.{◌≡◌, ◌≤◌, ◌<◌, ◌+◌, ◌++◌, IfOk, [], None, encode_utf8, length, slice_index_or};
 ghost use Rattle.std.specs.String.{string_bytes};
 ghost use Rattle.presentations.specs.declared.TheConstants.{LETTERS};
-ghost use Rattle.presented_descriptions.specs.Lists.{front, heap_words_text, letters_text, relations_text, words_text};
+ghost use Rattle.presented_descriptions.specs.Lists.{front, heap_word, heap_words_text, letters_text, relation_text, relations_text, words_text};
+ghost use Rattle.relations.specs.Printed.{word_text};
 
 use crate::words::{heap_word, relation_text, word_text};
 use normal_forms::{Exponents, Rule};
@@ -74,61 +75,118 @@ pub(crate) fn letters_text(
     Ok(text)
 }
 
+/// A relation behind a text.
+fn relation_item(
+    alloc: Global,
+    notation: Notation,
+    letters: u8,
+    front: &str,
+    rules: &[Rule],
+    k: usize,
+) -> Result<String, AllocError>
+    requires letters { letters ≤ LETTERS }
+    requires k { k < length rules.now }
+    ensures { IfOk result (λ t. string_bytes t
+        ≡ front.now ++ relation_text notation letters (slice_index_or rules.now k ([], []))) }
+{
+    let relation = relation_text(alloc, notation, letters, &rules[k])?;
+    both(alloc, front, relation.as_str())
+}
+
 /// Relations.
 pub(crate) fn relations_text(
     alloc: Global,
     notation: Notation,
+    letters: u8,
     first: &str,
     between: &str,
     rules: &[Rule],
 ) -> Result<String, AllocError>
+    requires { letters ≤ LETTERS }
     ensures { IfOk result
-        (λ t. string_bytes t ≡ relations_text notation first.now between.now rules.now) }
+        (λ t. string_bytes t ≡ relations_text notation letters first.now between.now rules.now) }
 {
     let mut text = String::new(alloc);
     for k in 0..rules.len() {
-        let relation = relation_text(alloc, notation, &rules[k])?;
-        let item = both(alloc, front(first, between, k), relation.as_str())?;
+        let item = relation_item(alloc, notation, letters, front(first, between, k), rules, k)?;
         text.push_str(item.as_str())?;
     }
     Ok(text)
+}
+
+/// A word behind a text.
+fn word_item(
+    alloc: Global,
+    notation: Notation,
+    letters: u8,
+    front: &str,
+    words: &[Exponents],
+    k: usize,
+) -> Result<String, AllocError>
+    requires letters { letters ≤ LETTERS }
+    requires k { k < length words.now }
+    ensures { IfOk result (λ t. string_bytes t
+        ≡ front.now ++ word_text notation letters (slice_index_or words.now k [])) }
+{
+    let word = word_text(alloc, notation, letters, &words[k])?;
+    both(alloc, front, word.as_str())
 }
 
 /// Words.
 pub(crate) fn words_text(
     alloc: Global,
     notation: Notation,
+    letters: u8,
     first: &str,
     between: &str,
     words: &[Exponents],
 ) -> Result<String, AllocError>
+    requires { letters ≤ LETTERS }
     ensures { IfOk result
-        (λ t. string_bytes t ≡ words_text notation first.now between.now words.now) }
+        (λ t. string_bytes t ≡ words_text notation letters first.now between.now words.now) }
 {
     let mut text = String::new(alloc);
     for k in 0..words.len() {
-        let word = word_text(alloc, notation, &words[k])?;
-        let item = both(alloc, front(first, between, k), word.as_str())?;
+        let item = word_item(alloc, notation, letters, front(first, between, k), words, k)?;
         text.push_str(item.as_str())?;
     }
     Ok(text)
+}
+
+/// The word of a heap behind a text.
+fn heap_word_item(
+    alloc: Global,
+    notation: Notation,
+    letters: u8,
+    front: &str,
+    words: &[Option<Exponents>],
+    k: usize,
+) -> Result<String, AllocError>
+    requires letters { letters ≤ LETTERS }
+    requires k { k < length words.now }
+    ensures { IfOk result (λ t. string_bytes t
+        ≡ front.now ++ heap_word notation letters (slice_index_or words.now k None)) }
+{
+    let word = heap_word(alloc, notation, letters, &words[k])?;
+    both(alloc, front, word.as_str())
 }
 
 /// The words of heaps.
 pub(crate) fn heap_words_text(
     alloc: Global,
     notation: Notation,
+    letters: u8,
     first: &str,
     between: &str,
     words: &[Option<Exponents>],
 ) -> Result<String, AllocError>
+    requires { letters ≤ LETTERS }
     ensures { IfOk result
-        (λ t. string_bytes t ≡ heap_words_text notation first.now between.now words.now) }
+        (λ t. string_bytes t ≡ heap_words_text notation letters first.now between.now words.now) }
 {
     let mut text = String::new(alloc);
     for k in 0..words.len() {
-        let word = heap_word(alloc, notation, &words[k])?;
-        let item = both(alloc, front(first, between, k), word.as_str())?;
+        let item = heap_word_item(alloc, notation, letters, front(first, between, k), words, k)?;
         text.push_str(item.as_str())?;
     }
     Ok(text)

@@ -6,6 +6,7 @@ ghost use Rattle.presented_descriptions.specs.Plain.{count_line, count_pieces, c
 
 use crate::lists::{all_three, heap_words_text, letters_text, name, relations_text, words_text};
 use allocation::Memory;
+use presentations::LETTERS;
 use presented_tables::Presented;
 use presented_text::LetterCycle;
 use relations::Notation;
@@ -46,7 +47,14 @@ fn head_line<A: Allocator>(alloc: Global, said: &Presented<A>) -> Result<String,
     let index = index_text(alloc, said)?;
     let code = said.code.text(alloc)?;
     let letters = letters_text(alloc, " ", ",", said.letters.len())?;
-    let relations = relations_text(alloc, Notation::Plain, " ", ", ", said.basis.rules())?;
+    let relations = relations_text(
+        alloc,
+        Notation::Plain,
+        LETTERS as u8,
+        " ",
+        ", ",
+        said.basis.rules(),
+    )?;
     let text = head_pieces(
         alloc,
         index.as_str(),
@@ -70,7 +78,14 @@ fn portion_line<A: Allocator>(alloc: Global, said: &Presented<A>) -> Result<Stri
     ensures { IfOk result (λ t. string_bytes t ≡ portion_line said.now) }
 {
     let index = index_text(alloc, said)?;
-    let words = words_text(alloc, Notation::Plain, " ", ", ", said.portion.as_slice())?;
+    let words = words_text(
+        alloc,
+        Notation::Plain,
+        LETTERS as u8,
+        " ",
+        ", ",
+        said.portion.as_slice(),
+    )?;
     portion_pieces(alloc, index.as_str(), words.as_str())
 }
 
@@ -190,7 +205,14 @@ fn generators_line<A: Allocator>(alloc: Global, said: &Presented<A>) -> Result<S
 fn heaps_line<A: Allocator>(alloc: Global, said: &Presented<A>) -> Result<String, AllocError>
     ensures { IfOk result (λ t. string_bytes t ≡ heaps_line said.now) }
 {
-    let words = heap_words_text(alloc, Notation::Plain, " ", " ", said.words.as_slice())?;
+    let words = heap_words_text(
+        alloc,
+        Notation::Plain,
+        LETTERS as u8,
+        " ",
+        " ",
+        said.words.as_slice(),
+    )?;
     let text = format!(in alloc; "heaps{words}\n")?;
     Ok(text)
 }

@@ -1,5 +1,5 @@
 //! The texts of words and relations.
-ghost use Rattle.std.specs.Prelude.{◌≡◌, ◌<◌, IfOk};
+ghost use Rattle.std.specs.Prelude.{◌≡◌, ◌<◌, ◌≤◌, IfOk};
 ghost use Rattle.std.specs.String.{string_bytes};
 ghost use Rattle.presentations.specs.declared.TheConstants.{LETTERS};
 ghost use Rattle.relations.specs.Printed.{factor_text, factors_text, or_one, word_text};
@@ -36,12 +36,18 @@ fn factor_text(
     Ok(text)
 }
 
-/// The factors of all letters.
-fn factors_text(alloc: Global, notation: Notation, word: &Exponents) -> Result<String, AllocError>
-    ensures { IfOk result (λ t. string_bytes t ≡ factors_text notation LETTERS word.now) }
+/// The factors of the first letters.
+fn factors_text(
+    alloc: Global,
+    notation: Notation,
+    letters: u8,
+    word: &Exponents,
+) -> Result<String, AllocError>
+    requires { letters ≤ LETTERS }
+    ensures { IfOk result (λ t. string_bytes t ≡ factors_text notation letters word.now) }
 {
     let mut text = String::new(alloc);
-    for letter in 0..LETTERS as u8 {
+    for letter in 0..letters {
         let factor = factor_text(alloc, notation, letter, word[letter as usize])?;
         text.push_str(factor.as_str())?;
     }
@@ -49,10 +55,16 @@ fn factors_text(alloc: Global, notation: Notation, word: &Exponents) -> Result<S
 }
 
 /// The same, or 1 if there are none.
-fn product_text(alloc: Global, notation: Notation, word: &Exponents) -> Result<String, AllocError>
-    ensures { IfOk result (λ t. string_bytes t ≡ or_one (factors_text notation LETTERS word.now)) }
+fn product_text(
+    alloc: Global,
+    notation: Notation,
+    letters: u8,
+    word: &Exponents,
+) -> Result<String, AllocError>
+    requires { letters ≤ LETTERS }
+    ensures { IfOk result (λ t. string_bytes t ≡ or_one (factors_text notation letters word.now)) }
 {
-    let text = factors_text(alloc, notation, word)?;
+    let text = factors_text(alloc, notation, letters, word)?;
     if text.len() == 0 {
         let one = format!(in alloc; "1")?;
         return Ok(one);
@@ -60,15 +72,17 @@ fn product_text(alloc: Global, notation: Notation, word: &Exponents) -> Result<S
     Ok(text)
 }
 
-/// A word.
+/// A word in the first letters.
 pub(crate) fn word_text(
     alloc: Global,
     notation: Notation,
+    letters: u8,
     word: &Exponents,
 ) -> Result<String, AllocError>
-    ensures { IfOk result (λ t. string_bytes t ≡ word_text notation LETTERS word.now) }
+    requires { letters ≤ LETTERS }
+    ensures { IfOk result (λ t. string_bytes t ≡ word_text notation letters word.now) }
 {
-    let product = product_text(alloc, notation, word)?;
+    let product = product_text(alloc, notation, letters, word)?;
     match notation {
         Notation::Plain | Notation::Latex => Ok(product),
         Notation::Json => {
@@ -82,12 +96,14 @@ pub(crate) fn word_text(
 pub(crate) fn relation_text(
     alloc: Global,
     notation: Notation,
+    letters: u8,
     rule: &Rule,
 ) -> Result<String, AllocError>
-    ensures { IfOk result (λ t. string_bytes t ≡ relation_text notation rule.now) }
+    requires { letters ≤ LETTERS }
+    ensures { IfOk result (λ t. string_bytes t ≡ relation_text notation letters rule.now) }
 {
-    let left = word_text(alloc, notation, &rule.left)?;
-    let right = word_text(alloc, notation, &rule.right)?;
+    let left = word_text(alloc, notation, letters, &rule.left)?;
+    let right = word_text(alloc, notation, letters, &rule.right)?;
     let text = match notation {
         Notation::Plain => format!(in alloc; "{left}={right}")?,
         Notation::Latex => format!(in alloc; "{left}={right}")?,
@@ -111,12 +127,14 @@ fn left_out(notation: Notation) -> &'static str
 pub(crate) fn heap_word(
     alloc: Global,
     notation: Notation,
+    letters: u8,
     word: &Option<Exponents>,
 ) -> Result<String, AllocError>
-    ensures { IfOk result (λ t. string_bytes t ≡ heap_word notation word.now) }
+    requires { letters ≤ LETTERS }
+    ensures { IfOk result (λ t. string_bytes t ≡ heap_word notation letters word.now) }
 {
     match word {
-        Some(word) => word_text(alloc, notation, word),
+        Some(word) => word_text(alloc, notation, letters, word),
         None => {
             let sign = left_out(notation);
             let text = format!(in alloc; "{sign}")?;
