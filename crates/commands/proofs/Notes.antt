@@ -5,7 +5,7 @@ use Rattle.commands.specs.Causes.{notes}
 use Rattle.commands.specs.Responses.{RespondsWith, Says}
 use Rattle.describe_command.specs.Described.{Describes, form_of}
 use Rattle.describe_command.specs.Described.Describes.{ByQuotient, NoQuotient}
-use Rattle.given_quotients.specs.declared.giving.Quotient.TheVariants.{Finite, Whole}
+use Rattle.given_quotients.specs.declared.giving.Quotient.TheVariants.{Finite, Whole, Presented}
 use Rattle.requests.specs.declared.plans.Output.{Output}
 use Rattle.requests.specs.declared.plans.Output.TheVariants.{Description, Latex, Json, Relations, Singular, Gap}
 use Rattle.requests.specs.Requests.{Request}
@@ -25,6 +25,7 @@ silent_description : (Are : List ℕ → Type 0) (file : Option (List ℕ)) (out
     → Describes Are limit (form_of basis) output text succeeds told → told ≡ None
 silent_description Are file output basis limit text succeeds told e (NoQuotient checked ill is) = is
 silent_description Are file output basis limit text succeeds told e (ByQuotient (Whole c) f h) = h.1
+silent_description Are file output basis limit text succeeds told e (ByQuotient (Presented k) f h) = h.1
 silent_description Are file Description basis limit text succeeds told e (ByQuotient (Finite c) f h) = h.1
 silent_description Are file Latex basis limit text succeeds told e (ByQuotient (Finite c) f h) = h.1
 silent_description Are file Json basis limit text succeeds told e (ByQuotient (Finite c) f h) = h.1

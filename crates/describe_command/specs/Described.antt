@@ -4,7 +4,9 @@ use Rattle.misere_theory.specs.Certificates.{Certificate}
 use Rattle.dominance_text.specs.Said.{DominanceSaid}
 use Rattle.given_quotients.specs.Given.{Gives, Refuses}
 use Rattle.given_quotients.specs.declared.giving.Quotient.{Quotient}
-use Rattle.given_quotients.specs.declared.giving.Quotient.TheVariants.{Finite, Whole}
+use Rattle.given_quotients.specs.declared.giving.Quotient.TheVariants.{Finite, Whole, Presented}
+use Rattle.presented_checker.specs.Refused.{Kept}
+use Rattle.presented_descriptions.specs.Described.{presented_text_for}
 use Rattle.infinite_descriptions.specs.Whole.{IsWholeText}
 use Rattle.infinite_descriptions.specs.declared.describing.Output.TheVariants as infinite
 use Rattle.descriptions.specs.Described.{IsDescription, IsIdealText}
@@ -67,6 +69,15 @@ DescribesWhole c Json text succeeds = IsWholeText infinite.Json c text × (succe
 DescribesWhole c _ text succeeds =
     (text ≡ codes "a whole game is described in lines, for LaTeX or as JSON\n") × (succeeds ≡ false)
 
+-- The text of a presentation, in lines, for LaTeX or as JSON; or that it is described in no other way.
+abbrev pub DescribesPresented : Kept → Output → List ℕ → Bool → Type 0
+DescribesPresented k Description text succeeds =
+    (text ≡ presented_text_for infinite.Plain k) × (succeeds ≡ true)
+DescribesPresented k Latex text succeeds = (text ≡ presented_text_for infinite.Latex k) × (succeeds ≡ true)
+DescribesPresented k Json text succeeds = (text ≡ presented_text_for infinite.Json k) × (succeeds ≡ true)
+DescribesPresented k _ text succeeds =
+    (text ≡ codes "a presentation is described in lines, for LaTeX or as JSON\n") × (succeeds ≡ false)
+
 -- What is said by a search of which only this is known, when it met a bound.
 module _ (Met : Meets) where
   -- what is said in place of a quotient is true of it: the bound was met, and of want of memory nothing is
@@ -105,12 +116,14 @@ module _ (Met : Meets) where
       (IsRelationsText form c text note × (succeeds ≡ true))
       ⊎ (IsBoundLineBy c form text × (succeeds ≡ false) × (note ≡ None))
 
-  -- the same of either kind of quotients
+  -- the same of each kind of quotients
   abbrev pub DescribesOfBy : Quotient → Form → Output → List ℕ → Bool → Option (List ℕ) → Type 0
   DescribesOfBy (Finite c) form output text succeeds note =
       DescribesQuotientBy c form output text succeeds note
   DescribesOfBy (Whole c) form output text succeeds note =
       DescribesWhole c output text succeeds × (note ≡ None)
+  DescribesOfBy (Presented k) form output text succeeds note =
+      DescribesPresented k output text succeeds × (note ≡ None)
 
   -- the same of the quotient that was found, and the text of a no where none was
   abbrev pub DescribesFoundBy : {A : Type 0} → Result Quotient (Vec ℕ A) → Form → Output → List ℕ

@@ -2,8 +2,9 @@
 ghost use Rattle.std.specs.Prelude.{◌≡◌, ◌++◌, IfOk, IfErr, None, true, false, codes, is_none, is_some, option_map};
 ghost use Rattle.std.specs.String.{string_bytes};
 ghost use Rattle.check_command.specs.Checks.{AreGiven, IsGivenCause, failed};
-ghost use Rattle.describe_command.specs.Described.{Describes, DescribesFoundBy, DescribesInBy, DescribesForBy, DescribesQuotientBy, DescribesWhole, bound_line, note_line};
+ghost use Rattle.describe_command.specs.Described.{Describes, DescribesFoundBy, DescribesInBy, DescribesForBy, DescribesPresented, DescribesQuotientBy, DescribesWhole, bound_line, note_line};
 ghost use Rattle.infinite_descriptions.specs.Whole.{IsWholeText};
+ghost use Rattle.presented_descriptions.specs.Described.{presented_text_for};
 ghost use Rattle.requests.specs.declared.plans.Output.TheVariants.{Relations};
 
 use crate::searches::{Relating, Texts};
@@ -14,6 +15,8 @@ use descriptions::{Bound, Form, Notation, PresentBound, RelationsWord, System, U
 use folders::Folder;
 use given_quotients::{Quotient, quotient_of};
 use infinite_descriptions::{Output as WholeOutput, whole_text};
+use presented_checker::PresentedQuotient;
+use presented_descriptions::presented_text;
 use requests::Output;
 use std::alloc::Global;
 use streams::Source;
@@ -184,6 +187,40 @@ fn whole_noted(alloc: Global, game: &WholeGame, output: Output) -> Result<Noted,
     }
 }
 
+/// The presentation in lines, for LaTeX or as JSON.
+fn presentation_described(
+    alloc: Global,
+    quotient: &PresentedQuotient,
+    output: WholeOutput,
+) -> Result<Noted, Memory>
+    ensures { IfOk result (λ n. (n.said.text.items ≡ presented_text_for output quotient.now)
+        × (n.said.succeeds ≡ true) × (option_map (λ t. t.now) n.note ≡ None)) }
+{
+    Ok(alone(Said::done(presented_text(alloc, quotient, output)?)))
+}
+
+/// The same, or that it is described in no other way.
+fn presentation_noted(
+    alloc: Global,
+    quotient: &PresentedQuotient,
+    output: Output,
+) -> Result<Noted, Memory>
+    ensures { IfOk result (λ n. DescribesPresented quotient.now output n.said.text.items n.said.succeeds
+        × (option_map (λ t. t.now) n.note ≡ None)) }
+{
+    match output {
+        Output::Description => presentation_described(alloc, quotient, WholeOutput::Plain),
+        Output::Latex => presentation_described(alloc, quotient, WholeOutput::Latex),
+        Output::Json => presentation_described(alloc, quotient, WholeOutput::Json),
+        Output::Relations | Output::Singular | Output::Gap => {
+            refuse(
+                alloc,
+                "a presentation is described in lines, for LaTeX or as JSON\n",
+            )
+        }
+    }
+}
+
 /// What is said of what was found, and told beside it.
 fn noted<T: Texts>(
     by: &T,
@@ -198,6 +235,7 @@ fn noted<T: Texts>(
     match found {
         Ok(Quotient::Finite(certified)) => finite_noted(by, alloc, &certified, form, output),
         Ok(Quotient::Whole(game)) => whole_noted(alloc, &game, output),
+        Ok(Quotient::Presented(quotient)) => presentation_noted(alloc, &quotient, output),
         Err(no) => Ok(alone(Said::no(no))),
     }
 }
@@ -208,7 +246,8 @@ fn noted<T: Texts>(
 /// or by its relations alone, as one word for `present`, or as an ideal for Singular or GAP. Or else why
 /// it gives none, or within which bound it is not described. The note names the bound of `present`
 /// that the one word's relations are above. That of a whole game is described in lines, for LaTeX or as JSON:
-/// by the presentation of the monoid of triples, and the triples of its heaps.
+/// by the presentation of the monoid of triples, and the triples of its heaps. So is a presentation: by what it
+/// says.
 pub fn describe<'a, F: Folder, S: Source>(
     alloc: Global,
     file: Option<&'a str>,

@@ -6,9 +6,10 @@ use Rattle.positions.specs.Text.{position_text}
 use Rattle.answers.specs.Spelled.{AreSpelled}
 use Rattle.given_quotients.specs.Given.{Gives, Refuses}
 use Rattle.given_quotients.specs.declared.giving.Quotient.{Quotient}
-use Rattle.given_quotients.specs.declared.giving.Quotient.TheVariants.{Finite, Whole}
+use Rattle.given_quotients.specs.declared.giving.Quotient.TheVariants.{Finite, Whole, Presented}
 use Rattle.infinite_descriptions.specs.Whole.{IsWholeText}
 use Rattle.infinite_descriptions.specs.declared.describing.Output.TheVariants.{Plain}
+use Rattle.presented_descriptions.specs.Described.{presented_text_for}
 
 -- the first two lines
 abbrev pub head_lines : Certificate → List ℕ
@@ -63,10 +64,11 @@ pub record IsQuotientText (c : Certificate) (text : List ℕ) : Type 0 where
   pub are_heaps : AreHeapLines c (c.start + c.period) heaps
   pub lines : text ≡ head_lines c ++ elements ++ heaps ++ tail_line c
 
--- the same of either kind of quotients
+-- the same of each kind of quotients
 abbrev pub ShowsOf : Quotient → List ℕ → Type 0
 ShowsOf (Finite c) text = IsQuotientText c text
 ShowsOf (Whole c) text = IsWholeText Plain c text
+ShowsOf (Presented k) text = text ≡ presented_text_for Plain k
 
 -- the text of the quotient that was found, and the text of a no where none was
 abbrev pub ShowsFound : {A : Type 0} → Result Quotient (Vec ℕ A) → List ℕ → Bool → Type 0

@@ -11,6 +11,7 @@ use command_results::{Said, Stop};
 use folders::Folder;
 use given_quotients::{Quotient, quotient_of};
 use infinite_descriptions::{Output, whole_text};
+use presented_descriptions::presented_text;
 use std::alloc::{AllocError, Global};
 use streams::Source;
 
@@ -123,14 +124,17 @@ fn shown(alloc: Global, found: Result<Quotient, Vec<u8>>) -> Result<Said, Memory
     match found {
         Ok(Quotient::Finite(certified)) => Ok(Said::done(quotient_text(alloc, &certified)?)),
         Ok(Quotient::Whole(game)) => Ok(Said::done(whole_text(alloc, &game, Output::Plain)?)),
+        Ok(Quotient::Presented(quotient)) => {
+            Ok(Said::done(presented_text(alloc, &quotient, Output::Plain)?))
+        }
         Err(no) => Ok(Said::no(no)),
     }
 }
 
 /// The quotient that the file, or standard input where no file is named, gives under the limit. A finite
 /// one: its code and order, each element with its outcome and a position of that value, each heap with its
-/// element, and how the heaps repeat or, of a partial quotient, which is the last. That of a whole game as
-/// `describe` has it. Or else why it gives none.
+/// element, and how the heaps repeat or, of a partial quotient, which is the last. That of a whole game, and a
+/// presentation, as `describe` has it. Or else why it gives none.
 pub fn show<'a, F: Folder, S: Source>(
     alloc: Global,
     file: Option<&'a str>,
