@@ -127,13 +127,13 @@ abbrev pub describe_conflicts : List Row → Bool
 describe_conflicts rows =
     let table = is_set (codes "gap-table") rows in
     let structure = is_set (codes "structure") rows in
-    (table && structure) || ((table || structure) && is_relational rows) || relational_conflicts rows
+    if table || structure then (table && structure) || is_relational rows else relational_conflicts rows
 
 -- by which of the two faults it is told that they do
 abbrev pub describe_exclusion : List Row → Option Exclusion
 describe_exclusion rows =
-    if is_set (codes "json") rows || is_set (codes "singular") rows || is_set (codes "gap") rows
-    || is_set (codes "gap-table") rows || is_set (codes "structure") rows
+    if is_set (codes "gap-table") rows || is_set (codes "structure") rows
+    || is_set (codes "json") rows || is_set (codes "singular") rows || is_set (codes "gap") rows
     then Some exclusion.Outputs
     else Some exclusion.Description
 

@@ -99,8 +99,9 @@ module _ (Met : Meets) where
   TellsStructureBy c text succeeds =
       (IsStructure c text × (succeeds ≡ true)) ⊎ (IsBoundLineBy c Basis text × (succeeds ≡ false))
 
-  -- The text describes the quotient, or is its relations as one word or as an ideal, or its
-  -- multiplication table, or what belongs to its idempotents, or says that it isn't described. Beside relations that `present` refuses there is a note, and else none.
+  -- The text describes the quotient, or is its relations as one word or as an ideal, or its multiplication
+  -- table, or what belongs to its idempotents, or says that it isn't described. Beside relations that
+  -- `present` refuses there is a note, and else none.
   abbrev pub DescribesQuotientBy : Certificate → Form → Output → List ℕ → Bool → Option (List ℕ) → Type 0
   DescribesQuotientBy c form Description text succeeds note =
       DescribesInBy written.Plain form c text succeeds × (note ≡ None)

@@ -178,16 +178,13 @@ fn whole_noted(alloc: Global, game: &WholeGame, output: Output) -> Result<Noted,
         Output::Description => whole_described(alloc, game, WholeOutput::Plain),
         Output::Latex => whole_described(alloc, game, WholeOutput::Latex),
         Output::Json => whole_described(alloc, game, WholeOutput::Json),
-        Output::Relations
-        | Output::Singular
-        | Output::Gap
-        | Output::GapTable
-        | Output::Structure => {
-            refuse(
-                alloc,
-                "a whole game is described in lines, for LaTeX or as JSON\n",
-            )
-        }
+        Output::Relations | Output::Singular | Output::Gap | Output::GapTable | Output::Structure =>
+            {
+                refuse(
+                    alloc,
+                    "a whole game is described in lines, for LaTeX or as JSON\n",
+                )
+            }
     }
 }
 

@@ -35,10 +35,22 @@ rows_text t zero = []
 rows_text t (suc x) =
     rows_text t x ++ comma x ++ codes "\n  [" ++ products_text t x t.order ++ codes "]"
 
--- the table T, the P-portion P, the elements of the heaps 1, 2, .. to the end of the first period, and how
--- they go on
+-- the table T, of the texts of a title and of its rows
+abbrev pub table_statement : (title rows : List ℕ) → List ℕ
+table_statement title rows =
+    codes "# " ++ title ++ codes ": SemigroupByMultiplicationTable(T)\nT := [" ++ rows ++ codes "];;\n"
+
+-- the P-portion P, and the elements of the heaps 1, 2, .. to the end of the first period
+abbrev pub list_statements : (portion heaps : List ℕ) → List ℕ
+list_statements portion heaps =
+    codes "P := [" ++ portion ++ codes "];;\nheaps := [" ++ heaps ++ codes "];;\n"
+
+-- how the heaps go on
+abbrev pub tail_statements : (start period : ℕ) → List ℕ
+tail_statements start period =
+    codes "start := " ++ decimal start ++ codes ";;\nperiod := " ++ decimal period ++ codes ";;\n"
+
+-- all of them
 abbrev pub table_text : Certificate → List ℕ
-table_text c = codes "# " ++ title_text c ++ codes ": SemigroupByMultiplicationTable(T)\nT := ["
-    ++ rows_text (grid_of c) c.order ++ codes "];;\nP := [" ++ numbers_text c.portion
-    ++ codes "];;\nheaps := [" ++ numbers_text c.phi ++ codes "];;\nstart := " ++ decimal c.start
-    ++ codes ";;\nperiod := " ++ decimal c.period ++ codes ";;\n"
+table_text c = table_statement (title_text c) (rows_text (grid_of c) c.order)
+    ++ list_statements (numbers_text c.portion) (numbers_text c.phi) ++ tail_statements c.start c.period

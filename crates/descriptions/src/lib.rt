@@ -9,6 +9,7 @@ mod describing;
 mod finding;
 mod indices;
 mod invariants;
+mod joining;
 mod laws;
 mod lines;
 mod multiplication;

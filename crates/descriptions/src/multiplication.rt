@@ -2,13 +2,15 @@
 ghost use Rattle.std.specs.Prelude.{◌≡◌, ◌<◌, ◌≤◌, IfOk, All};
 ghost use Rattle.std.specs.String.{string_bytes};
 ghost use Rattle.misere_theory.specs.declared.TheConstants.{LARGEST_ORDER};
-ghost use Rattle.descriptions.specs.MultiplicationTables.{comma, more_numbers, number_text, numbers_text, products_text, rows_text, table_text};
+ghost use Rattle.descriptions.specs.MultiplicationTables.{comma, list_statements, more_numbers, number_text, numbers_text, products_text, rows_text, table_statement, table_text, tail_statements};
+ghost use Rattle.descriptions.specs.Systems.{title_text};
 
 use crate::finding::table_of;
+use crate::joining::all_three;
 use crate::systems::title_text;
 use allocation::Memory;
 use answers::Certified;
-use certificate::in_ranges;
+use certificate::{Cert, in_ranges};
 use monoid_table::Table;
 use std::alloc::{AllocError, Global};
 
@@ -86,6 +88,54 @@ fn rows_text(alloc: Global, table: &Table) -> Result<String, AllocError>
     Ok(text)
 }
 
+/// The statement of the table, of the texts of its title and its rows.
+fn table_statement(alloc: Global, title: &str, rows: &str) -> Result<String, AllocError>
+    ensures { IfOk result (λ t. string_bytes t ≡ table_statement title.now rows.now) }
+{
+    let text = format!(in alloc;
+        "# {title}: SemigroupByMultiplicationTable(T)\nT := [{rows}];;\n"
+    )?;
+    Ok(text)
+}
+
+/// The statements of the portion and of the heaps, of the texts of their elements.
+fn list_statements(alloc: Global, portion: &str, heaps: &str) -> Result<String, AllocError>
+    ensures { IfOk result (λ t. string_bytes t ≡ list_statements portion.now heaps.now) }
+{
+    let text = format!(in alloc; "P := [{portion}];;\nheaps := [{heaps}];;\n")?;
+    Ok(text)
+}
+
+/// The statements of how the heaps go on.
+fn tail_statements(alloc: Global, start: u64, period: u64) -> Result<String, AllocError>
+    ensures { IfOk result (λ t. string_bytes t ≡ tail_statements start period) }
+{
+    let text = format!(in alloc; "start := {start};;\nperiod := {period};;\n")?;
+    Ok(text)
+}
+
+/// The statement of the certificate's table.
+fn table_part(alloc: Global, cert: &Cert, table: &Table) -> Result<String, Memory>
+    ensures { IfOk result (λ t. string_bytes t
+        ≡ table_statement (title_text cert.now) (rows_text table.now table.now.order)) }
+{
+    let title = title_text(alloc, cert)?;
+    let rows = rows_text(alloc, table)?;
+    let text = table_statement(alloc, title.as_str(), rows.as_str())?;
+    Ok(text)
+}
+
+/// The statements of the certificate's portion and heaps.
+fn lists_part(alloc: Global, cert: &Cert) -> Result<String, AllocError>
+    ensures { IfOk result (λ t. string_bytes t
+        ≡ list_statements (numbers_text cert.now.portion) (numbers_text cert.now.phi)) }
+{
+    in_ranges(cert);
+    let portion = numbers_text(alloc, cert.portion())?;
+    let heaps = numbers_text(alloc, cert.phi().entries())?;
+    list_statements(alloc, portion.as_str(), heaps.as_str())
+}
+
 /// The multiplication table of the certified quotient for GAP, with its portion and the elements of the
 /// heaps as lists.
 pub fn table_text(alloc: Global, certified: &Certified) -> Result<String, Memory>
@@ -93,14 +143,9 @@ pub fn table_text(alloc: Global, certified: &Certified) -> Result<String, Memory
 {
     let table = table_of(alloc, certified)?;
     let cert = certified.cert();
-    in_ranges(cert);
-    let title = title_text(alloc, cert)?;
-    let rows = rows_text(alloc, &table)?;
-    let portion = numbers_text(alloc, cert.portion())?;
-    let heaps = numbers_text(alloc, cert.phi().entries())?;
-    let (start, period) = (cert.start(), cert.period());
-    let text = format!(in alloc;
-        "# {title}: SemigroupByMultiplicationTable(T)\nT := [{rows}];;\nP := [{portion}];;\nheaps := [{heaps}];;\nstart := {start};;\nperiod := {period};;\n"
-    )?;
+    let first = table_part(alloc, cert, &table)?;
+    let lists = lists_part(alloc, cert)?;
+    let tail = tail_statements(alloc, cert.start(), cert.period())?;
+    let text = all_three(alloc, first.as_str(), lists.as_str(), tail.as_str())?;
     Ok(text)
 }

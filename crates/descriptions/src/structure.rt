@@ -1,15 +1,19 @@
 //! The text that tells the structure of a quotient by its idempotents.
-ghost use Rattle.std.specs.Prelude.{◌≡◌, ◌<◌, ◌≤◌, ◌++◌, [], IfOk, All, codes, length, slice_index_or};
+ghost use Rattle.std.specs.Prelude.{◌≡◌, ◌<◌, ◌≤◌, ◌++◌, [], IfOk, All, codes, length, slice_index_or, vec_len};
 ghost use Rattle.std.specs.String.{string_bytes};
+ghost use Rattle.certificate.specs.Fields.{grid_of};
 ghost use Rattle.presentations.specs.declared.TheConstants.{LETTERS};
+ghost use Rattle.descriptions.specs.Described.{Describes};
 ghost use Rattle.descriptions.specs.Structure.{AreLines, AreLinesOf, IsIdempotent, IsStructure, below_line, share_line, structure_head};
 ghost use Rattle.relations.specs.Printed.{word_text};
+ghost use Rattle.relations.specs.declared.finding.Form.TheVariants.{Basis};
 ghost use Rattle.relations.specs.declared.text.Notation.TheVariants.{Plain};
 
 use crate::choosing::{Part, those};
 use crate::components::{Share, belonging};
 use crate::finding::{describe_table, table_of};
 use crate::invariants::lowest;
+use crate::joining::{all_three, both};
 use crate::lines::list_text;
 use crate::systems::title_text;
 use allocation::Memory;
@@ -17,7 +21,7 @@ use answers::Certified;
 use certificate::Cert;
 use monoid_table::Table;
 use presentations::Word;
-use relations::{Form, Notation, Undescribed, word_text};
+use relations::{Description, Form, Notation, Undescribed, word_text};
 use std::alloc::{AllocError, Global};
 
 /// The word of an element.
@@ -106,7 +110,7 @@ fn lines_of(
     let component = share_text(alloc, "component", letters, words, e, &members)?;
     let group = share_text(alloc, "group", letters, words, e, &group)?;
     let below = below_text(alloc, letters, words, e, &below)?;
-    let text = format!(in alloc; "{component}{group}{below}")?;
+    let text = all_three(alloc, component.as_str(), group.as_str(), below.as_str())?;
     Ok(text)
 }
 
@@ -135,6 +139,15 @@ fn lines_text(
     Ok(text)
 }
 
+/// The quotient and the lines of two lists, of their texts.
+fn head_pieces(alloc: Global, title: &str, first: &str, second: &str) -> Result<String, AllocError>
+    ensures { IfOk result
+        (λ t. string_bytes t ≡ title.now ++ codes "\n" ++ first.now ++ second.now) }
+{
+    let text = format!(in alloc; "{title}\n{first}{second}")?;
+    Ok(text)
+}
+
 /// The lines before those of each idempotent: the quotient, its idempotents and its kernel.
 fn head_text(
     alloc: Global,
@@ -160,7 +173,39 @@ fn head_text(
         idempotents,
     )?;
     let second = list_text(alloc, Notation::Plain, "kernel", letters, words, kernel)?;
-    let text = format!(in alloc; "{title}\n{first}{second}")?;
+    let text = head_pieces(alloc, title.as_str(), first.as_str(), second.as_str())?;
+    Ok(text)
+}
+
+/// The structure in the words of the description.
+fn parts_text(
+    alloc: Global,
+    certified: &Certified,
+    table: &Table,
+    description: &Description,
+) -> Result<String, Memory>
+    requires table { table.now ≡ grid_of certified.now }
+    requires describes { Describes certified.now Basis description.now.elements.items
+        description.now.relations.items description.now.words.items description.now.listing.items }
+    requires words { vec_len description.now.words ≡ certified.now.order }
+    ensures { IfOk result (λ t. IsStructure certified.now (string_bytes t)) }
+{
+    let letters = description.elements.len() as u8;
+    let words = description.words.as_slice();
+    let listing = description.listing.as_slice();
+    let low = lowest(table);
+    let idempotents = those(alloc, certified, table, low, Part::Idempotents, listing)?;
+    let kernel = those(alloc, certified, table, low, Part::Kernel, listing)?;
+    let head = head_text(
+        alloc,
+        certified.cert(),
+        letters,
+        words,
+        &idempotents,
+        &kernel,
+    )?;
+    let parts = lines_text(alloc, table, letters, words, listing, &idempotents)?;
+    let text = both(alloc, head.as_str(), parts.as_str())?;
     Ok(text)
 }
 
@@ -172,21 +217,6 @@ pub fn structure_text(alloc: Global, certified: &Certified) -> Result<String, Un
 {
     let table = table_of(alloc, certified)?;
     let description = describe_table(alloc, certified, &table, Form::Basis)?;
-    let letters = description.elements.len() as u8;
-    let words = description.words.as_slice();
-    let listing = description.listing.as_slice();
-    let low = lowest(&table);
-    let idempotents = those(alloc, certified, &table, low, Part::Idempotents, listing)?;
-    let kernel = those(alloc, certified, &table, low, Part::Kernel, listing)?;
-    let head = head_text(
-        alloc,
-        certified.cert(),
-        letters,
-        words,
-        &idempotents,
-        &kernel,
-    )?;
-    let parts = lines_text(alloc, &table, letters, words, listing, &idempotents)?;
-    let text = format!(in alloc; "{head}{parts}")?;
+    let text = parts_text(alloc, certified, &table, &description)?;
     Ok(text)
 }
