@@ -2,7 +2,8 @@
 ghost use Rattle.std.specs.Prelude.{◌≡◌, ◌≢◌, None, Some, false, IfOk, IfErr, codes, is_some, option_map};
 ghost use Rattle.command_line.specs.Plans.{HasNumbersWithin};
 ghost use Rattle.command_line.specs.Refusals.{Answers, IsMistake, IsMistakeIn, conflicts_in};
-ghost use Rattle.command_line.specs.Requests.{arguments_of, certify, check, compare, describe, describe_conflicts, desk, explain, infinite, is_set, layout_conflicts, layout_in, output_in, play};
+ghost use Rattle.command_line.specs.Requests.{arguments_of, certify, check, compare, describe, describe_conflicts, desk, explain, infinite, is_relational, is_set, layout_conflicts, layout_in, output_in, play};
+ghost use Rattle.command_line.specs.Requests.{relational_conflicts, relational_in};
 ghost use Rattle.command_line.specs.Requests.{apart, present, request_in, show, tail, value, verify};
 ghost use Rattle.command_line.specs.Requests.{explain_conflicts, word_given, word_in, word_request_of};
 ghost use Rattle.command_line.specs.Wanted.{IsAskedIn};
@@ -50,11 +51,14 @@ fn tail_plan<'a>(given: &ArgMatches<'a>) -> Result<Plan<'a>, UsageFault>
     Ok(Plan::Tail { file, limit })
 }
 
-/// What is to be printed of a quotient.
-fn output(given: &ArgMatches<'_>) -> Result<Output, UsageFault>
-    ensures output { IfOk result (λ o. output_in (arguments_of given.now) ≡ Some o) }
-    ensures apart { IfOk result (λ _. describe_conflicts (arguments_of given.now) ≡ false) }
-    ensures none { IfErr result (λ _. output_in (arguments_of given.now) ≡ None) }
+/// What is to be printed of a quotient by its relations, where it is asked for by neither `--gap-table` nor
+/// `--structure`.
+fn relational(given: &ArgMatches<'_>) -> Result<Output, UsageFault>
+    requires table { is_set (codes "gap-table") (arguments_of given.now) ≡ false }
+    requires structure { is_set (codes "structure") (arguments_of given.now) ≡ false }
+    ensures output { IfOk result (λ o. relational_in (arguments_of given.now) ≡ Some o) }
+    ensures apart { IfOk result (λ _. relational_conflicts (arguments_of given.now) ≡ false) }
+    ensures none { IfErr result (λ _. relational_in (arguments_of given.now) ≡ None) }
     ensures mistake { IfErr result (IsMistake describe (arguments_of given.now)) }
 {
     match (
@@ -71,6 +75,36 @@ fn output(given: &ArgMatches<'_>) -> Result<Output, UsageFault>
         (false, false, false, true, false) => Ok(Output::Singular),
         (false, false, false, false, true) => Ok(Output::Gap),
         (true, true, false, false, false) => { Err(UsageFault::Exclusive(Exclusion::Description)) }
+        _ => Err(UsageFault::Exclusive(Exclusion::Outputs)),
+    }
+}
+
+/// Whether something is asked for that is printed by the relations.
+fn is_relational(given: &ArgMatches<'_>) -> bool
+    ensures { result ≡ is_relational (arguments_of given.now) }
+{
+    flag(given, "latex")
+        || flag(given, "relations")
+        || flag(given, "json")
+        || flag(given, "singular")
+        || flag(given, "gap")
+}
+
+/// What is to be printed of a quotient.
+fn output(given: &ArgMatches<'_>) -> Result<Output, UsageFault>
+    ensures output { IfOk result (λ o. output_in (arguments_of given.now) ≡ Some o) }
+    ensures apart { IfOk result (λ _. describe_conflicts (arguments_of given.now) ≡ false) }
+    ensures none { IfErr result (λ _. output_in (arguments_of given.now) ≡ None) }
+    ensures mistake { IfErr result (IsMistake describe (arguments_of given.now)) }
+{
+    match (
+        flag(given, "gap-table"),
+        flag(given, "structure"),
+        is_relational(given),
+    ) {
+        (false, false, _) => relational(given),
+        (true, false, false) => Ok(Output::GapTable),
+        (false, true, false) => Ok(Output::Structure),
         _ => Err(UsageFault::Exclusive(Exclusion::Outputs)),
     }
 }

@@ -182,6 +182,8 @@ fn describe_command<'a>(alloc: Global) -> Result<Command<'a>, AllocError>
     let json = "Print it as one object of JSON";
     let singular = "Print the ideal of the relations, for Singular";
     let gap = "Print the ideal of the relations, for GAP";
+    let table = "Print the multiplication table, the portion and the heaps' elements, for GAP";
+    let structure = "Print the idempotents, with the archimedean component and the group of each";
     let made = Ok(command(alloc, "describe", about));
     let made = with_arg(made, optional(alloc, "file", "FILE", GIVEN));
     let made = with_arg(made, flag(alloc, "latex", latex));
@@ -190,6 +192,8 @@ fn describe_command<'a>(alloc: Global) -> Result<Command<'a>, AllocError>
     let made = with_arg(made, flag(alloc, "json", json));
     let made = with_arg(made, flag(alloc, "singular", singular));
     let made = with_arg(made, flag(alloc, "gap", gap));
+    let made = with_arg(made, flag(alloc, "gap-table", table));
+    let made = with_arg(made, flag(alloc, "structure", structure));
     with_arg(made, limit(alloc))
 }
 

@@ -17,7 +17,7 @@ pub enum Exclusion {
     Description,
     /// The file, the code and the position of `explain`.
     Explain,
-    /// The options of `describe` that say what is printed, one of `--json`, `--singular` and `--gap`
+    /// The options of `describe` that say what is printed, another one than `--latex` and `--relations`
     /// among them.
     Outputs,
     /// `--show` of `infinite` beside a position.
@@ -78,7 +78,7 @@ fn exclusion_line(exclusion: Exclusion) -> &'static str
         Exclusion::Description => "misere: --latex goes without --relations\n",
         Exclusion::Explain => "misere: one of FILE, --code and --position\n",
         Exclusion::Outputs => {
-            "misere: one of --latex, --relations, --json, --singular and --gap\n"
+            "misere: one of --latex, --relations, --json, --singular, --gap, --gap-table and --structure\n"
         }
         Exclusion::Infinite => "misere: --show goes without POSITION\n",
         Exclusion::Layout => "misere: --latex or --json goes with --show, one of them\n",

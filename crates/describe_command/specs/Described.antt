@@ -11,6 +11,8 @@ use Rattle.infinite_descriptions.specs.Whole.{IsWholeText}
 use Rattle.infinite_descriptions.specs.declared.describing.Output.TheVariants as infinite
 use Rattle.descriptions.specs.Described.{IsDescription, IsIdealText}
 use Rattle.descriptions.specs.Presenting.{IsRelationsWord}
+use Rattle.descriptions.specs.Structure.{IsStructure}
+use Rattle.descriptions.specs.MultiplicationTables.{table_text}
 use Rattle.descriptions.specs.declared.presenting.PresentBound.{PresentBound}
 use Rattle.descriptions.specs.declared.presenting.PresentBound.TheVariants as beyond
 use Rattle.descriptions.specs.declared.systems.System.{System}
@@ -26,7 +28,7 @@ use Rattle.relations.specs.declared.fault.Bound.TheVariants as bound
 use Rattle.relations.specs.declared.fault.Undescribed.{Undescribed}
 use Rattle.relations.specs.declared.fault.Undescribed.TheVariants.{Bound as Told, Memory as NoMemory}
 use Rattle.requests.specs.declared.plans.Output.{Output}
-use Rattle.requests.specs.declared.plans.Output.TheVariants.{Description, Latex, Json, Relations, Singular, Gap}
+use Rattle.requests.specs.declared.plans.Output.TheVariants.{Description, Latex, Json, Relations, Singular, Gap, GapTable, Structure}
 
 -- the form that is asked for: the basis, or a short list
 abbrev pub form_of : Bool → Form
@@ -78,6 +80,10 @@ DescribesPresented k Json text succeeds = (text ≡ presented_text_for infinite.
 DescribesPresented k _ text succeeds =
     (text ≡ codes "a presentation is described in lines, for LaTeX or as JSON\n") × (succeeds ≡ false)
 
+-- the text is the multiplication table for GAP
+abbrev pub TellsTable : Certificate → List ℕ → Bool → Type 0
+TellsTable c text succeeds = (text ≡ table_text c) × (succeeds ≡ true)
+
 -- What is said by a search of which only this is known, when it met a bound.
 module _ (Met : Meets) where
   -- what is said in place of a quotient is true of it: the bound was met, and of want of memory nothing is
@@ -99,8 +105,14 @@ module _ (Met : Meets) where
   DescribesForBy for form c text succeeds =
       (IsIdealText for form c text × (succeeds ≡ true)) ⊎ (IsBoundLineBy c form text × (succeeds ≡ false))
 
-  -- The text describes the quotient, or is its relations as one word or as an ideal, or says that it
-  -- isn't described. Beside relations that `present` refuses there is a note, and else none.
+  -- the text tells the structure of the quotient, or says that it isn't described
+  abbrev pub TellsStructureBy : Certificate → List ℕ → Bool → Type 0
+  TellsStructureBy c text succeeds =
+      (IsStructure c text × (succeeds ≡ true)) ⊎ (IsBoundLineBy c Basis text × (succeeds ≡ false))
+
+  -- The text describes the quotient, or is its relations as one word or as an ideal, or its multiplication
+  -- table, or what belongs to its idempotents, or says that it isn't described. Beside relations that
+  -- `present` refuses there is a note, and else none.
   abbrev pub DescribesQuotientBy : Certificate → Form → Output → List ℕ → Bool → Option (List ℕ) → Type 0
   DescribesQuotientBy c form Description text succeeds note =
       DescribesInBy written.Plain form c text succeeds × (note ≡ None)
@@ -112,6 +124,10 @@ module _ (Met : Meets) where
       DescribesForBy system.Singular form c text succeeds × (note ≡ None)
   DescribesQuotientBy c form Gap text succeeds note =
       DescribesForBy system.Gap form c text succeeds × (note ≡ None)
+  DescribesQuotientBy c form GapTable text succeeds note =
+      TellsTable c text succeeds × (note ≡ None)
+  DescribesQuotientBy c form Structure text succeeds note =
+      TellsStructureBy c text succeeds × (note ≡ None)
   DescribesQuotientBy c form Relations text succeeds note =
       (IsRelationsText form c text note × (succeeds ≡ true))
       ⊎ (IsBoundLineBy c form text × (succeeds ≡ false) × (note ≡ None))

@@ -8,6 +8,7 @@ ghost use Rattle.presented_descriptions.specs.Described.{presented_text_for};
 ghost use Rattle.requests.specs.declared.plans.Output.TheVariants.{Relations};
 
 use crate::searches::{Relating, Texts};
+use crate::structures::{structured, tabled};
 use allocation::Memory;
 use answers::Certified;
 use command_results::{Noted, Said, Stop};
@@ -23,7 +24,7 @@ use streams::Source;
 use whole_checker::WholeGame;
 
 /// What is said, with nothing told beside it.
-fn alone(said: Said) -> Noted
+pub(crate) fn alone(said: Said) -> Noted
     ensures said { result.said ≡ said }
     ensures note { option_map (λ t. t.now) result.note ≡ None }
 {
@@ -31,7 +32,7 @@ fn alone(said: Said) -> Noted
 }
 
 /// The line of a no.
-fn refuse(alloc: Global, line: &str) -> Result<Noted, Memory>
+pub(crate) fn refuse(alloc: Global, line: &str) -> Result<Noted, Memory>
     ensures { IfOk result (λ n. (n.said.text.items ≡ line.now) × (n.said.succeeds ≡ false)
         × (option_map (λ t. t.now) n.note ≡ None)) }
 {
@@ -40,7 +41,7 @@ fn refuse(alloc: Global, line: &str) -> Result<Noted, Memory>
 }
 
 /// The line that says within which bound a quotient is not described.
-fn bound_line(bound: Bound) -> &'static str
+pub(crate) fn bound_line(bound: Bound) -> &'static str
     ensures { result.now ≡ bound_line bound }
 {
     match bound {
@@ -158,6 +159,8 @@ fn finite_noted<T: Texts>(
         Output::Relations => presented(by, alloc, certified, form),
         Output::Singular => computed(by, alloc, certified, form, System::Singular),
         Output::Gap => computed(by, alloc, certified, form, System::Gap),
+        Output::GapTable => tabled(alloc, certified),
+        Output::Structure => structured(by, alloc, certified),
     }
 }
 
@@ -178,12 +181,13 @@ fn whole_noted(alloc: Global, game: &WholeGame, output: Output) -> Result<Noted,
         Output::Description => whole_described(alloc, game, WholeOutput::Plain),
         Output::Latex => whole_described(alloc, game, WholeOutput::Latex),
         Output::Json => whole_described(alloc, game, WholeOutput::Json),
-        Output::Relations | Output::Singular | Output::Gap => {
-            refuse(
-                alloc,
-                "a whole game is described in lines, for LaTeX or as JSON\n",
-            )
-        }
+        Output::Relations | Output::Singular | Output::Gap | Output::GapTable | Output::Structure =>
+            {
+                refuse(
+                    alloc,
+                    "a whole game is described in lines, for LaTeX or as JSON\n",
+                )
+            }
     }
 }
 
@@ -212,12 +216,13 @@ fn presentation_noted(
         Output::Description => presentation_described(alloc, quotient, WholeOutput::Plain),
         Output::Latex => presentation_described(alloc, quotient, WholeOutput::Latex),
         Output::Json => presentation_described(alloc, quotient, WholeOutput::Json),
-        Output::Relations | Output::Singular | Output::Gap => {
-            refuse(
-                alloc,
-                "a presentation is described in lines, for LaTeX or as JSON\n",
-            )
-        }
+        Output::Relations | Output::Singular | Output::Gap | Output::GapTable | Output::Structure =>
+            {
+                refuse(
+                    alloc,
+                    "a presentation is described in lines, for LaTeX or as JSON\n",
+                )
+            }
     }
 }
 
@@ -243,11 +248,11 @@ fn noted<T: Texts>(
 /// The quotient that the file, or standard input where no file is named, gives under the limit,
 /// described. A finite one is: by relations that present its monoid in this form, with its portion, orders,
 /// generators, standard invariants and the pretending function in words, plain, for LaTeX or in JSON;
-/// or by its relations alone, as one word for `present`, or as an ideal for Singular or GAP. Or else why
-/// it gives none, or within which bound it is not described. The note names the bound of `present`
-/// that the one word's relations are above. That of a whole game is described in lines, for LaTeX or as JSON:
-/// by the presentation of the monoid of triples, and the triples of its heaps. So is a presentation: by what it
-/// says.
+/// or by its relations alone, as one word for `present`, or as an ideal for Singular or GAP; or by its
+/// multiplication table, or what belongs to each of its idempotents. Or else why it gives none, or within
+/// which bound it is not described. The note names the bound of `present` that the one word's relations are
+/// above. That of a whole game is described in lines, for LaTeX or as JSON: by the presentation of the
+/// monoid of triples, and the triples of its heaps. So is a presentation: by what it says.
 pub fn describe<'a, F: Folder, S: Source>(
     alloc: Global,
     file: Option<&'a str>,

@@ -3,6 +3,7 @@
 
 mod describing;
 mod searches;
+mod structures;
 
 pub use describing::describe;
 pub use descriptions::Form;

@@ -3,12 +3,14 @@ ghost use Rattle.std.specs.Prelude.{◌≡◌, IfOk, IfErr};
 ghost use Rattle.std.specs.String.{string_bytes};
 ghost use Rattle.descriptions.specs.Described.{IsDescription, IsIdealText};
 ghost use Rattle.descriptions.specs.Presenting.{IsRelationsWord};
+ghost use Rattle.descriptions.specs.Structure.{IsStructure};
+ghost use Rattle.relations.specs.declared.finding.Form.TheVariants.{Basis};
 ghost use Rattle.describe_command.specs.Described.{HasMet, IsToldOf, Meets};
 
 use answers::Certified;
 use descriptions::{
     Form, Notation, RelationsWord, System, Undescribed, description_text, ideal_text,
-    relations_word,
+    relations_word, structure_text,
 };
 use std::alloc::Global;
 
@@ -50,6 +52,11 @@ pub trait Texts {
         ensures text { IfOk result
             (λ w. IsRelationsWord form certified.now (string_bytes w.word) w.beyond) }
         ensures met { IfErr result (IsToldOf has_met certified.now form) };
+
+    /// The structure by the idempotents.
+    fn structure(&self, alloc: Global, certified: &Certified) -> Result<String, Undescribed>
+        ensures text { IfOk result (λ t. IsStructure certified.now (string_bytes t)) }
+        ensures met { IfErr result (IsToldOf has_met certified.now Basis) };
 }
 
 /// The texts that `descriptions` makes.
@@ -85,5 +92,9 @@ impl Texts for Relating {
         form: Form,
     ) -> Result<RelationsWord, Undescribed> {
         relations_word(alloc, certified, form)
+    }
+
+    fn structure(&self, alloc: Global, certified: &Certified) -> Result<String, Undescribed> {
+        structure_text(alloc, certified)
     }
 }

@@ -12,3 +12,6 @@ pub mod Polynomials
 pub mod Trivial
 pub mod Beside
 pub mod Heaps
+pub mod PowerLaws
+pub mod NumberTexts
+pub mod StructureTexts

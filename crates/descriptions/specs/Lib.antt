@@ -6,3 +6,5 @@ pub mod Arrays
 pub mod Systems
 pub mod Described
 pub mod Presenting
+pub mod Structure
+pub mod MultiplicationTables

@@ -162,7 +162,7 @@ fn indeterminates_text(alloc: Global, letters: u8) -> Result<String, AllocError>
 }
 
 /// The quotient and how many elements it has.
-fn title_text(alloc: Global, cert: &Cert) -> Result<String, Memory>
+pub fn title_text(alloc: Global, cert: &Cert) -> Result<String, Memory>
     ensures { IfOk result (λ t. string_bytes t ≡ title_text cert.now) }
 {
     let index = index_text(alloc, Notation::Plain, cert)?;

@@ -212,6 +212,10 @@ pub enum Output {
     Singular,
     /// The same for GAP.
     Gap,
+    /// Its multiplication table, for GAP.
+    GapTable,
+    /// Its idempotents, with the archimedean component and the group of each.
+    Structure,
 }
 
 /// How an infinite quotient is printed.

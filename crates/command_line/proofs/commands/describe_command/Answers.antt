@@ -11,4 +11,6 @@ returns c =
     let five = c.with_arg-made-5.ensures _ _ _ four c.flag-4.ensures.rule c.flag-4.ensures.local in
     let six = c.with_arg-made-6.ensures _ _ _ five c.flag-5.ensures.rule c.flag-5.ensures.local in
     let seven = c.with_arg-made-7.ensures _ _ _ six c.flag-6.ensures.rule c.flag-6.ensures.local in
-    c.with_arg.ensures _ _ _ seven c.limit.ensures.rule c.limit.ensures.local
+    let eight = c.with_arg-made-8.ensures _ _ _ seven c.flag-7.ensures.rule c.flag-7.ensures.local in
+    let nine = c.with_arg-made-9.ensures _ _ _ eight c.flag-8.ensures.rule c.flag-8.ensures.local in
+    c.with_arg.ensures _ _ _ nine c.limit.ensures.rule c.limit.ensures.local
