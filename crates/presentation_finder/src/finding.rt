@@ -74,8 +74,9 @@ fn presented<A: SmallAllocator + Copy>(
     Ok(Err(Unpresented::Refused))
 }
 
-/// Looks for the presentation of the quotient of the heaps of a certificate with tracks. What it hands out was accepted by
-/// the check of its bytes, is of this code, and has no more heaps with words of their own. The work is bounded.
+/// Looks for the presentation of the quotient of the heaps of a certificate with tracks. What it hands out was accepted
+/// by the check of its bytes and is of this code. It is of a list of heaps, as the certificate is, and the list is no
+/// longer. The work is bounded.
 pub fn present_infinite<A: SmallAllocator + Copy>(
     alloc: A,
     shown: &Infinite<A>,
@@ -83,6 +84,7 @@ pub fn present_infinite<A: SmallAllocator + Copy>(
     ensures accepted { IfOk result (λ found. IfOk found
         (λ f. SpellsPresented f.text.items f.quotient.said × IsRight f.quotient)) }
     ensures code { IfOk result (λ found. IfOk found (λ f. f.quotient.said.code ≡ shown.now.claim.code)) }
+    ensures part { IfOk result (λ found. IfOk found (λ f. f.quotient.said.period ≡ 0)) }
     ensures few { IfOk result (λ found. IfOk found
         (λ f. f.quotient.said.heaps ≤ length shown.now.claim.heaps)) }
 {
@@ -96,8 +98,9 @@ pub fn present_infinite<A: SmallAllocator + Copy>(
         Ok(found) => found,
         Err(why) => return Ok(Err(why)),
     };
+    let is_part = found.quotient.period() == 0;
     let is_few = found.quotient.heaps() as usize <= shown.last();
-    if is_few && *found.quotient.code() == *shown.code() {
+    if is_part && is_few && *found.quotient.code() == *shown.code() {
         Ok(Ok(found))
     } else {
         Ok(Err(Unpresented::Refused))

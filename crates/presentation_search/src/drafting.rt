@@ -8,7 +8,8 @@ use presented_text::LetterCycle;
 use quotient_search::Halt;
 use std::alloc::Allocator;
 
-/// What a text says beside the code: letters, heaps' words, relations by the order of their left words, cycles and portion.
+/// What a text says beside the code: letters, heaps' words, relations by the order of their left words, cycles and
+/// portion.
 #[derive(Drop)]
 pub struct FoundLines<A: Allocator> {
     pub letters: LetterHeaps<A>,

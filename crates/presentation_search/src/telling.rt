@@ -72,8 +72,8 @@ impl<A: Allocator> Contexts<'_, A> {
     }
 }
 
-/// A tree of contexts. A node has a context and two nodes below it, for values that are P beside the context and for those
-/// that aren't; or it has no context, and an item.
+/// A tree of contexts. A node has a context and two nodes below it, for values that are P beside the context and for
+/// those that aren't; or it has no context, and an item.
 #[derive(Drop)]
 pub struct Tree<A: Allocator> {
     contexts: Vec<usize, A>,

@@ -21,8 +21,8 @@ impl Value {
     };
 }
 
-/// How values are multiplied, and which are P: a table, one element's row after another, the folds of two tracks, and for
-/// each element and each place whether it is P.
+/// How values are multiplied, and which are P: a table, one element's row after another, the folds of two tracks, and
+/// for each element and each place whether it is P.
 #[derive(Drop)]
 pub struct ValueTable<A: Allocator> {
     pub order: usize,

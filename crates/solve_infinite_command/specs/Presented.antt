@@ -15,11 +15,13 @@ unpresented_line Work = codes "gave up: its relations weren't found within the w
 unpresented_line Limit = codes "gave up: its presentation is larger than the check takes\n"
 unpresented_line Refused = codes "gave up: the presentation that was found was refused by the check\n"
 
--- The text is that of a presentation of the code: it is the misère quotient of its heaps, which are no more than were to
--- be looked at, and infinite. Or it says why no certificate was found, or no presentation, and nothing is claimed.
+-- The text is that of a presentation of the code: it is the misère quotient of its heaps, and infinite. They are those of
+-- a list, which goes no further than was to be looked at. Or it says why no certificate was found, or no presentation,
+-- and nothing is claimed.
 pub data FindsPresented (code : List ℕ) (bounds : PartsBounds) : List ℕ → Bool → Type 0 where
   FoundPresented : {text : List ℕ} (k : Kept) → SpellsPresented text k.said → IsRight k → k.order ≡ None
-      → k.said.code ≡ code → k.said.heaps ≤ bounds.heaps → FindsPresented code bounds text true
+      → k.said.code ≡ code → k.said.period ≡ 0 → k.said.heaps ≤ bounds.heaps
+      → FindsPresented code bounds text true
   NoCertificate : {text : List ℕ} (why : Unfound) → text ≡ reason_line why → FindsPresented code bounds text false
   NoPresentation : {text : List ℕ} (why : Unpresented) → text ≡ unpresented_line why
       → FindsPresented code bounds text false

@@ -1,4 +1,5 @@
-//! `solve --infinite`: a part of a game that has no finite quotient, by the certificate that shows it, or by its presentation.
+//! `solve --infinite`: a part of a game that has no finite quotient, by the certificate that shows it, or by its
+//! presentation.
 #![tactic(auto)]
 
 mod presenting;

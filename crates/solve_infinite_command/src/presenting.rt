@@ -61,6 +61,7 @@ fn told(code: &Code, bounds: PartsBounds, found: FoundPresentation) -> Said
     requires accepted { SpellsPresented found.text.items found.quotient.said × IsRight found.quotient }
     requires endless { found.quotient.order ≡ None }
     requires same { found.quotient.said.code ≡ code.now }
+    requires part { found.quotient.said.period ≡ 0 }
     requires few { found.quotient.said.heaps ≤ bounds.heaps }
     ensures { FindsPresented code.now bounds result.text.items result.succeeds }
 {
@@ -93,8 +94,8 @@ fn presentation(
     }
 }
 
-/// Looks for a certificate with tracks of the code, and then for the presentation of its quotient, and says it, or why none
-/// was found.
+/// Looks for a certificate with tracks of the code, and then for the presentation of its quotient, and says it, or why
+/// none was found.
 pub(crate) fn presented(alloc: Global, code: &Code, bounds: PartsBounds) -> Result<Said, Memory>
     ensures { IfOk result (λ s. FindsPresented code.now bounds s.text.items s.succeeds) }
 {
