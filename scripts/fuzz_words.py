@@ -127,6 +127,7 @@ def tries(commands: Commands, chance: random.Random, text: bytes) -> Iterator[tu
     yield [b"solve", word(CODES, chance), b"--any", b"--order", b"8", b"--rounds", b"2"], b""
     yield [b"series", word(CODES, chance), b"--order", b"12", b"--heaps", b"6"], b""
     yield [b"solve", word(CODES, chance), b"--infinite", b"--heaps", b"5"], b""
+    yield [b"solve", word(CODES, chance), b"--infinite", b"--presented", b"--heaps", b"5"], b""
     yield [b"catalogue", b"x.json"], b""
     yield [b"catalogue", b"x.json", b"--table", *chance.sample([b"--json"], chance.randrange(2))], b""
     yield [b"catalogue", b"x.json", b"--get", word(CODES, chance)], b""

@@ -39,13 +39,13 @@ abbrev pub verify : App
 verify = command (codes "verify") (optional (codes "file") ∷ option (codes "limit") ∷ [])
 
 -- solve CODE.. [--limit N] [--rounds R] [--heaps M] [--deep] [--any] [--partial M] [--furthest Q]
--- [--order Q] [--why] [--infinite]
+-- [--order Q] [--why] [--infinite] [--presented]
 abbrev pub solve : App
 solve = command (codes "solve")
     (several (codes "code") ∷ option (codes "limit") ∷ option (codes "rounds")
     ∷ option (codes "heaps") ∷ flag (codes "deep") ∷ flag (codes "any")
     ∷ option (codes "partial") ∷ option (codes "furthest") ∷ option (codes "order")
-    ∷ flag (codes "why") ∷ flag (codes "infinite") ∷ [])
+    ∷ flag (codes "why") ∷ flag (codes "infinite") ∷ flag (codes "presented") ∷ [])
 
 -- series CODE [--order Q] [--heaps M] [--limit N]
 abbrev pub series : App

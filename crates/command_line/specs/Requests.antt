@@ -233,24 +233,28 @@ asks_for_finite rows =
     || is_given (codes "partial") rows || is_given (codes "furthest") rows
     || is_given (codes "rounds") rows
 
+-- a search for an infinite quotient is meant: --infinite says it, and --presented stands with it alone
+abbrev pub asks_for_infinite : List Row → Bool
+asks_for_infinite rows = is_set (codes "infinite") rows || is_set (codes "presented") rows
+
 -- --infinite stands with several codes, with those of standard input, or with another option than
--- --heaps, --order, --limit and --why
+-- --heaps, --order, --limit, --presented and --why; or --presented stands without it
 abbrev pub infinite_search_conflicts : List Row → Bool
 infinite_search_conflicts rows =
-    is_input (first_of (codes "code") rows) || has_several (all_of (codes "code") rows)
+    not (is_set (codes "infinite") rows) || is_input (first_of (codes "code") rows) || has_several (all_of (codes "code") rows)
     || asks_for_finite rows
 
-abbrev pub infinite_search_with : Option Text → Option ℕ → Option ℕ → Option ℕ → Option Request
-infinite_search_with (Some code) (Some n) (Some largest) (Some last) =
-    Some (SolveInfinite code (record { limit = n; order = largest; heaps = last }))
-infinite_search_with _ _ _ _ = None
+abbrev pub infinite_search_with : Bool → Option Text → Option ℕ → Option ℕ → Option ℕ → Option Request
+infinite_search_with presented (Some code) (Some n) (Some largest) (Some last) =
+    Some (SolveInfinite code (record { limit = n; order = largest; heaps = last }) presented)
+infinite_search_with _ _ _ _ _ = None
 
 -- a part with an infinite quotient is searched for
 abbrev pub infinite_search_request : List Row → Option Request
 infinite_search_request rows =
     if infinite_search_conflicts rows then None
-    else infinite_search_with (first_of (codes "code") rows) (number_of Limit rows)
-    (number_of InfiniteOrder rows) (number_of SeriesLast rows)
+    else infinite_search_with (is_set (codes "presented") rows) (first_of (codes "code") rows)
+    (number_of Limit rows) (number_of InfiniteOrder rows) (number_of SeriesLast rows)
 
 -- the series of a code
 abbrev pub series_with : Option Text → Option ℕ → Option ℕ → Option ℕ → Option Request
@@ -520,9 +524,9 @@ infinite_search = record {
   exclusion = λ rows. Some exclusion.SolveInfinite;
 }
 
--- which of the two is meant: --infinite says it
+-- which of the two is meant
 abbrev pub search_meant : List Row → Asking
-search_meant rows = if is_set (codes "infinite") rows then infinite_search else search
+search_meant rows = if asks_for_infinite rows then infinite_search else search
 
 abbrev pub solve : Asking
 solve = record {

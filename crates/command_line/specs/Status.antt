@@ -48,7 +48,7 @@ exclusion_text exclusion.Play =
 exclusion_text exclusion.Solve =
     codes "misere: one of --heaps, --deep, --any, --partial and --furthest, and --furthest without --order\n"
 exclusion_text exclusion.SolveInfinite =
-    codes "misere: --infinite takes one code, and goes with --heaps, --order, --limit and --why alone\n"
+    codes "misere: --infinite takes one code, and goes with --heaps, --order, --limit, --presented and --why alone; --presented needs --infinite\n"
 
 -- what is told of the fault
 abbrev pub text_of : UsageFault → Text

@@ -134,6 +134,7 @@ need, and orders to 256 by default";
     let why = "Tell why the search is given up";
     let infinite = "Look for a part, the heaps 1 to some n, of which a certificate shows that its \
 quotient is infinite: n to M of --heaps, 1 to 1024, by default 64";
+    let presented = "With --infinite: print the presentation of its quotient";
     let made = Ok(command(alloc, "solve", about));
     let made = with_arg(made, several(alloc, "code", "CODE", code));
     let made = with_arg(made, limit(alloc));
@@ -145,7 +146,8 @@ quotient is infinite: n to M of --heaps, 1 to 1024, by default 64";
     let made = with_arg(made, option(alloc, "furthest", "Q", furthest));
     let made = with_arg(made, option(alloc, "order", "Q", order));
     let made = with_arg(made, flag(alloc, "why", why));
-    with_arg(made, flag(alloc, "infinite", infinite))
+    let made = with_arg(made, flag(alloc, "infinite", infinite));
+    with_arg(made, flag(alloc, "presented", presented))
 }
 
 fn series_command<'a>(alloc: Global) -> Result<Command<'a>, AllocError>

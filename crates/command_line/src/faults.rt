@@ -87,7 +87,7 @@ fn exclusion_line(exclusion: Exclusion) -> &'static str
             "misere: one of --heaps, --deep, --any, --partial and --furthest, and --furthest without --order\n"
         }
         Exclusion::SolveInfinite => {
-            "misere: --infinite takes one code, and goes with --heaps, --order, --limit and --why alone\n"
+            "misere: --infinite takes one code, and goes with --heaps, --order, --limit, --presented and --why alone; --presented needs --infinite\n"
         }
     }
 }

@@ -6,7 +6,7 @@ ghost use Rattle.command_line.specs.Plans.{AimsWithin, AreWithin, HasNumbersWith
 ghost use Rattle.command_line.specs.Refusals.{Answers, IsMistake};
 ghost use Rattle.command_line.specs.Requests.{arguments_of, is_deep};
 ghost use Rattle.command_line.specs.Requests.{aim_in, bounds_in, order_by, order_in, search, search_conflicts, series, solve, solve_with};
-ghost use Rattle.command_line.specs.Requests.{asks_for_finite, has_several, infinite_search, infinite_search_conflicts};
+ghost use Rattle.command_line.specs.Requests.{asks_for_finite, asks_for_infinite, has_several, infinite_search, infinite_search_conflicts};
 ghost use Rattle.requests.specs.Requests.{request_of};
 ghost use Rattle.requests.specs.Requests.Request.{SolveMany};
 
@@ -166,11 +166,21 @@ fn asks_for_finite(given: &ArgMatches<'_>) -> bool
         || value(given, "rounds").is_some()
 }
 
-/// Whether what was given excludes `--infinite`.
+/// Whether a search for an infinite quotient is meant.
+fn asks_for_infinite(given: &ArgMatches<'_>) -> bool
+    ensures { result ≡ asks_for_infinite (arguments_of given.now) }
+{
+    flag(given, "infinite") || flag(given, "presented")
+}
+
+/// Whether what was given excludes `--infinite`, or `--presented` is given without it.
 fn infinite_search_conflicts(given: &ArgMatches<'_>) -> bool
     ensures { result ≡ infinite_search_conflicts (arguments_of given.now) }
 {
-    is_input(value(given, "code")) || has_several(given) || asks_for_finite(given)
+    !flag(given, "infinite")
+        || is_input(value(given, "code"))
+        || has_several(given)
+        || asks_for_finite(given)
 }
 
 /// The plan of a search for an infinite quotient.
@@ -189,13 +199,18 @@ fn infinite_search_plan<'a>(given: &ArgMatches<'a>) -> Result<Plan<'a>, UsageFau
         order,
         heaps,
     };
-    Ok(Plan::SolveInfinite { code, bounds })
+    let presented = flag(given, "presented");
+    Ok(Plan::SolveInfinite {
+        code,
+        bounds,
+        presented,
+    })
 }
 
 pub fn solve_plan<'a>(alloc: Global, given: &ArgMatches<'a>) -> Result<Plan<'a>, UsageFault>
     ensures { Answers solve (arguments_of given.now) result }
 {
-    if flag(given, "infinite") {
+    if asks_for_infinite(given) {
         infinite_search_plan(given)
     } else {
         search_plan(alloc, given)

@@ -46,7 +46,7 @@ module _ (input : Option (List ℕ)) (before after : Option (List ℕ → Option
   plainly (Solve code bounds) text succeeds h = (h, refl)
   plainly (SolveMany codes bounds) text succeeds h = (h, refl)
   plainly (SolveLines bounds) text succeeds h = (h, refl)
-  plainly (SolveInfinite code bounds) text succeeds h = (h, refl)
+  plainly (SolveInfinite code bounds presented) text succeeds h = (h, refl)
   plainly (Series code bounds) text succeeds h = (h, refl)
   plainly (Show file limit) text succeeds h = (h, refl)
   plainly (Tail file limit) text succeeds h = (h, refl)
@@ -76,7 +76,7 @@ module _ (input : Option (List ℕ)) (before after : Option (List ℕ → Option
   silent (Solve code bounds) text succeeds told e h = h.1
   silent (SolveMany codes bounds) text succeeds told e h = h.1
   silent (SolveLines bounds) text succeeds told e h = h.1
-  silent (SolveInfinite code bounds) text succeeds told e h = h.1
+  silent (SolveInfinite code bounds presented) text succeeds told e h = h.1
   silent (Series code bounds) text succeeds told e h = h.1
   silent (Show file limit) text succeeds told e h = h.1
   silent (Tail file limit) text succeeds told e h = h.1

@@ -53,7 +53,7 @@ IsCause input (Solve code bounds) before after stop = IsSolveCause code stop
 IsCause input (SolveMany codes bounds) before after stop = IsMemory stop
 IsCause input (SolveLines bounds) before after stop =
     IsLinesCause (AreLinesOf input) before.input after.input stop
-IsCause input (SolveInfinite code bounds) before after stop = IsSolveCause code stop
+IsCause input (SolveInfinite code bounds presented) before after stop = IsSolveCause code stop
 IsCause input (Series code bounds) before after stop = IsSolveCause code stop
 IsCause input (Show file limit) before after stop =
     IsGivenCause file (given before) (given after) stop

@@ -25,7 +25,7 @@ use Rattle.show_command.specs.Shown.{Shows}
 use Rattle.tail_command.specs.Lines.{Tails}
 use Rattle.solve_command.specs.Many.{AnswersCodes, SolvesLines}
 use Rattle.solve_command.specs.Solved.{Solves}
-use Rattle.solve_infinite_command.specs.Found.{IsFound}
+use Rattle.solve_infinite_command.specs.Asked.{IsFound}
 use Rattle.verify_command.specs.Verifies.{Verifies}
 
 -- What is said for each request, by what is left of standard input and by the files. What files
@@ -44,8 +44,8 @@ Says input before after (SolveMany codes bounds) text succeeds =
     AnswersCodes bounds codes text succeeds
 Says input before after (SolveLines bounds) text succeeds =
     SolvesLines (AreLinesOf input) bounds text succeeds
-Says input before after (SolveInfinite code bounds) text succeeds =
-    IsFound code bounds text succeeds
+Says input before after (SolveInfinite code bounds presented) text succeeds =
+    IsFound code bounds presented text succeeds
 Says input before after (Series code bounds) text succeeds = IsSeries code bounds text succeeds
 Says input before after (Show file limit) text succeeds =
     Shows (AreGiven input before file) limit text succeeds

@@ -152,7 +152,11 @@ fn say<'a, F: Folder, S: Source>(
         Plan::Solve { code, bounds } => solve(alloc, code, bounds),
         Plan::SolveMany { codes, bounds } => solve_many(alloc, &codes, bounds),
         Plan::SolveLines { bounds } => solve_lines(alloc, bounds, input),
-        Plan::SolveInfinite { code, bounds } => solve_infinite(alloc, code, bounds),
+        Plan::SolveInfinite {
+            code,
+            bounds,
+            presented,
+        } => solve_infinite(alloc, code, bounds, presented),
         Plan::Series { code, bounds } => series(alloc, code, bounds),
         Plan::Catalogue { file, task, limit } => act(alloc, folder, file, task, limit),
         Plan::Describe { .. } | Plan::Desk { .. } => unreachable!(),

@@ -41,7 +41,7 @@ fn said_of(alloc: Global, code: &[u8], limit: u32, heaps: u32, order: u32) -> Re
     if !are_in_range(bounds) {
         return Err(NOT_IN_RANGE);
     }
-    match solve_infinite_bytes(alloc, code, bounds) {
+    match solve_infinite_bytes(alloc, code, bounds, false) {
         Ok(said) => Ok(said),
         Err(Stop::NotACode) => Err(NOT_A_CODE),
         Err(_) => Err(MEMORY),

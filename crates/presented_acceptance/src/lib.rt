@@ -5,6 +5,8 @@
 #[cfg(test)]
 mod kept_checker_tests;
 #[cfg(test)]
+mod presentation_finder_tests;
+#[cfg(test)]
 mod presented_checker_tests;
 #[cfg(test)]
 mod presented_tables_tests;

@@ -1,7 +1,6 @@
 -- What a search for a certificate of an infinite quotient says. This project's own.
 use Rattle.std.specs.Prelude.{◌≡◌, ◌≤◌, ℕ, Bool, true, false, List, ◌++◌, length, codes, decimal}
 use Rattle.requests.specs.declared.plans.PartsBounds.{PartsBounds}
-use Rattle.octal_code.specs.Text.{IsCodeText}
 use Rattle.tracked_text.specs.Said.{Said}
 use Rattle.tracked_text.specs.Spelling.{Spells}
 use Rattle.infinite_answers.specs.Shown.{IsShown}
@@ -33,8 +32,3 @@ pub data Finds (code : List ℕ) (bounds : PartsBounds) : List ℕ → Bool → 
   Found : {text : List ℕ} (c : Said) → Spells text c → IsShown c → c.code ≡ code
       → IsAllowed bounds c → Finds code bounds text true
   GaveUp : {text : List ℕ} (why : Unfound) → text ≡ reason_line why → Finds code bounds text false
-
--- the word is a code's, and this is found of it
-abbrev pub IsFound : List ℕ → PartsBounds → List ℕ → Bool → Type 0
-IsFound word bounds text succeeds =
-    (code : List ℕ) × IsCodeText word code × Finds code bounds text succeeds

@@ -1,8 +1,12 @@
 //! What a search for a certificate of an infinite quotient says.
-ghost use Rattle.std.specs.Prelude.{◌≡◌, ◌↔◌, IfOk, IfErr, IsErrOf, string_bytes};
+ghost use Rattle.std.specs.Prelude.{◌↔◌, IfOk, IfErr, IsErrOf};
 ghost use Rattle.solve_command.specs.Solved.{IsNoCode, IsSolveCause};
-ghost use Rattle.solve_infinite_command.specs.Found.{Finds, IsFound, reason_line};
+ghost use Rattle.solve_infinite_command.specs.Found.{Finds};
+ghost use Rattle.solve_infinite_command.specs.Presented.{FindsAsked};
+ghost use Rattle.solve_infinite_command.specs.Asked.{IsFound};
 
+use crate::presenting::presented;
+use crate::reasons::reason_text;
 use allocation::Memory;
 use command_results::{Said, Stop};
 use dominance_finder::find_whole;
@@ -10,27 +14,6 @@ use infinite_finder::{FoundInfinite, Unfound, find_infinite};
 use octal_code::Code;
 use requests::PartsBounds;
 use std::alloc::Global;
-
-/// Why none was found, in a line.
-fn reason_line(alloc: Global, why: Unfound) -> Result<String, Memory>
-    ensures { IfOk result (λ t. string_bytes t ≡ reason_line why) }
-{
-    let text = match why {
-        Unfound::Finite { heaps } => format!(in alloc;
-            "gave up: each part to heap {heaps} seems to have a finite quotient\n"
-        )?,
-        Unfound::Shapes { heap } => format!(in alloc;
-            "gave up: to heap {heap} no shape that was tried is right\n"
-        )?,
-        Unfound::Work { heap } => format!(in alloc;
-            "gave up: to heap {heap} the work that is allowed was done\n"
-        )?,
-        Unfound::Refused => format!(in alloc;
-            "gave up: what was found was refused by the check\n"
-        )?,
-    };
-    Ok(text)
-}
 
 /// Looks for a certificate with tracks of the code, and says it, or why none was found.
 fn tracked(alloc: Global, code: &Code, bounds: PartsBounds) -> Result<Said, Memory>
@@ -49,7 +32,7 @@ fn tracked(alloc: Global, code: &Code, bounds: PartsBounds) -> Result<Said, Memo
         Err(why) => why,
     };
     Ok(Said {
-        text: reason_line(alloc, why)?.into_bytes(),
+        text: reason_text(alloc, why)?.into_bytes(),
         succeeds: false,
     })
 }
@@ -67,17 +50,40 @@ fn found(alloc: Global, code: &Code, bounds: PartsBounds) -> Result<Said, Memory
     }
 }
 
+/// Looks for what is asked of the code, and says it.
+fn asked(
+    alloc: Global,
+    code: &Code,
+    bounds: PartsBounds,
+    is_presented: bool,
+) -> Result<Said, Memory>
+    ensures { IfOk result (λ s. FindsAsked code.now bounds is_presented s.text.items s.succeeds) }
+{
+    if is_presented {
+        presented(alloc, code, bounds)
+    } else {
+        found(alloc, code, bounds)
+    }
+}
+
 /// Looks for the text of the whole game whose code the word is: it says the outcome of every position, and
 /// that the quotient is infinite. If none is found, looks for the first part of the game, of the heaps 1 to
 /// some heap up to `bounds.heaps`, that has no finite quotient. Says the certificate with tracks that shows
-/// it, with at most `bounds.order` elements and where at most `bounds.limit` pairs are kept. What it says
-/// was accepted; or it says why nothing was found, which claims nothing of the game.
-pub fn solve_infinite(alloc: Global, word: &str, bounds: PartsBounds) -> Result<Said, Stop<'static>>
-    ensures says { IfOk result (λ s. IsFound word.now bounds s.text.items s.succeeds) }
+/// it, with at most `bounds.order` elements and where at most `bounds.limit` pairs are kept. If the quotient
+/// is to be presented, no whole game is looked for, and the presentation of that part's quotient is said in
+/// place of the certificate. What it says was accepted; or it says why nothing was found, which claims
+/// nothing of the game.
+pub fn solve_infinite(
+    alloc: Global,
+    word: &str,
+    bounds: PartsBounds,
+    is_presented: bool,
+) -> Result<Said, Stop<'static>>
+    ensures says { IfOk result (λ s. IsFound word.now bounds is_presented s.text.items s.succeeds) }
     ensures stops { IfErr result (IsSolveCause word.now) }
     ensures not_a_code { IsErrOf result Stop.NotACode ↔ IsNoCode word.now }
 {
-    solve_infinite_bytes(alloc, word.as_bytes(), bounds)
+    solve_infinite_bytes(alloc, word.as_bytes(), bounds, is_presented)
 }
 
 /// The same of bytes, which may be no text at all.
@@ -85,14 +91,15 @@ pub fn solve_infinite_bytes(
     alloc: Global,
     word: &[u8],
     bounds: PartsBounds,
+    is_presented: bool,
 ) -> Result<Said, Stop<'static>>
-    ensures says { IfOk result (λ s. IsFound word.now bounds s.text.items s.succeeds) }
+    ensures says { IfOk result (λ s. IsFound word.now bounds is_presented s.text.items s.succeeds) }
     ensures stops { IfErr result (IsSolveCause word.now) }
     ensures not_a_code { IsErrOf result Stop.NotACode ↔ IsNoCode word.now }
 {
     let Ok(code) = Code::read(word) else {
         return Err(Stop::NotACode);
     };
-    let said = found(alloc, &code, bounds)?;
+    let said = asked(alloc, &code, bounds, is_presented)?;
     Ok(said)
 }

@@ -13,4 +13,4 @@ returns-in-Ok c =
 pub returns : goal.returns
 returns c =
     GaveUp c.match-branch-2.why
-    (ap (λ v. v.items) c.into_bytes.ensures.value ∙ c.in_ok-reason_line.ensures)
+    (ap (λ v. v.items) c.into_bytes.ensures.value ∙ c.in_ok-reason_text.ensures)
