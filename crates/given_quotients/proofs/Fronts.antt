@@ -49,7 +49,7 @@ module _ (laws : (bytes : List ℕ) (limit : ℕ) → IsTrueOf bytes limit (verd
       → verdict front limit ≡ verdict bytes limit → 4194304 < length front → 4194304 < length bytes
       → JudgesQuotient front limit q → JudgesQuotient bytes limit q
   judges_longer bytes front limit (Ok (Finite c)) e long more given =
-      (no_long bytes more, no_long_presented bytes more, yes_of bytes front limit c e given.1.1)
+      (no_long bytes more, no_long_presented bytes more, yes_of bytes front limit c e given.2)
   judges_longer bytes front limit (Ok (Whole c)) e long more given = absurd (no_long front long given.0)
   judges_longer bytes front limit (Ok (Presented k)) e long more given =
       absurd (no_long_presented front long given.0)
