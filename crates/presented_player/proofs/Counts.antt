@@ -1,5 +1,5 @@
 -- How many letters words have that are reduced, and of which no exponent is large.
-use Rattle.std.proofs.Common.{◌≡◌, ℕ, zero, suc, ◌+◌, ◌*◌, ◌<◌, ◌≤◌, List, arith}
+use Rattle.std.proofs.Common.{ℕ, zero, suc, ◌*◌, ◌<◌, ◌≤◌, List, arith}
 use Rattle.std.specs.Prelude.{slice_index}
 use Rattle.relations.specs.Bases.{letter_count}
 use Rattle.normal_forms.specs.Reductions.{ReducesTo, AreOriented}

@@ -1,5 +1,5 @@
 -- If a move wins, one wins that is tried.
-use Rattle.std.proofs.Common.{◌≡◌, ◌⊎◌, ℕ, zero, suc, ◌+◌, ◌-◌, ◌<◌, ◌≤◌, true, List, [], ◌∷◌, ◌++◌, map, length, Option, refl, sym, ap, ap₂, ◌∙◌, subst, inl, inr, arith, eq-zero-or-pos}
+use Rattle.std.proofs.Common.{◌≡◌, ℕ, ◌+◌, ◌-◌, ◌<◌, ◌≤◌, true, List, [], ◌∷◌, ◌++◌, map, refl, sym, ap, ap₂, ◌∙◌, subst, inl, inr, arith, eq-zero-or-pos}
 use Rattle.std.specs.List.Sorted.{IsNonDecreasing}
 use Rattle.std.specs.Prelude.{is_some, false}
 use Rattle.std.proofs.lemmas.Bool.{true≢false, cases_lt, lt-ltb}
@@ -9,7 +9,7 @@ use Rattle.misere_theory.specs.Games.HeapOption.{Nothing, One, Two, Three}
 use Rattle.misere_theory.specs.Labels.{LabelClaim, label_of}
 use Rattle.misere_theory.specs.Pairs.{IsSmallSplit}
 use Rattle.misere_theory.specs.Plays.{IsWinningMove}
-use Rattle.misere_theory.proofs.Shuffles.{Shuffled, beside, p_shuffled, from_permutation, position_shuffled}
+use Rattle.misere_theory.proofs.Shuffles.{beside, p_shuffled, from_permutation, position_shuffled}
 use Rattle.misere_theory.proofs.Sums.{IsPosition-append}
 use Rattle.misere_theory.proofs.Wins.{winning_leads}
 use Rattle.presentations.specs.declared.TheConstants.{LETTERS}
@@ -22,7 +22,7 @@ use Rattle.presented_checker.specs.Refused.{Kept, IsRight}
 use Rattle.whole_presentations.specs.Unrolled.{said_word, repeats_from}
 use Rattle.whole_presentations.proofs.Lists.{periodic}
 use Rattle.player.specs.Wins.{IsTriedWin}
-use Rattle.presented_player.proofs.Splits.{SmallLike, small_like}
+use Rattle.presented_player.proofs.Splits.{small_like}
 
 -- ---- labels by what heaps have
 

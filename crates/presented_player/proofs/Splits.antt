@@ -103,7 +103,7 @@ module _ {T : Type 0} (code : List ℕ) (f : ℕ → T) (k start period : ℕ) (
         let two_sum = two.sum in let two_up = two.rising in let two_some = two.some in
         let two_small = two.small in let two_down = two.lower in
         let same : map f (one.low ∷ two.low ∷ two.high ∷ []) ≡ map f (a ∷ b ∷ d ∷ []) =
-        three_same one.low_same two.low_same (two.high_same ∙ one.high_same) in
+        three_same {z = two.high} one.low_same two.low_same (two.high_same ∙ one.high_same) in
         let option : HeapOption code n (one.low ∷ two.low ∷ two.high ∷ []) =
         Three j one.low two.low two.high one_some two_some (omega arith) (omega arith) s in
         elim (dec_le one.low two.low) [

@@ -1,4 +1,4 @@
-use Rattle.std.proofs.Common.{rules, ◌≡◌, ◌≤◌, List, ℕ, subst, sym, arith}
+use Rattle.std.proofs.Common.{rules, ◌≤◌, List, ℕ, subst, sym, arith}
 use Rattle.presentations.specs.declared.TheConstants.{LETTERS}
 use Rattle.presentations.specs.Vectors.{plus}
 use Rattle.relations.specs.Bases.{letter_count}
@@ -19,7 +19,7 @@ reduced-requires-clause-few g c =
     let y = c.args.y.now in
     let small_x : AreSmall x = search rules in
     let small_y : AreSmall y = search rules in
-    subst (λ (w : List ℕ). letter_count LETTERS w ≤ MOST_LETTERS) (sym c.product.ensures)
+    subst (λ (w : List ℕ). letter_count LETTERS w ≤ MOST_LETTERS) (sym {b = plus x y} c.product.ensures)
     (omega (
       arith,
       count-plus LETTERS x y,
