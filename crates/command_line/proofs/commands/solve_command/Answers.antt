@@ -18,4 +18,5 @@ returns c =
     let nine = c.with_arg-made-9.ensures _ _ _ eight c.option-5.ensures.rule
     c.option-5.ensures.local in
     let ten = c.with_arg-made-10.ensures _ _ _ nine c.flag-3.ensures.rule c.flag-3.ensures.local in
-    c.with_arg.ensures _ _ _ ten c.flag-4.ensures.rule c.flag-4.ensures.local
+    let eleven = c.with_arg-made-11.ensures _ _ _ ten c.flag-4.ensures.rule c.flag-4.ensures.local in
+    c.with_arg.ensures _ _ _ eleven c.flag-5.ensures.rule c.flag-5.ensures.local
