@@ -32,12 +32,12 @@ generators_in heaps (suc k) =
 
 -- a letter, from which exponent on the portion repeats along it, and after how many, behind a text
 abbrev pub cycle_pieces : List ℕ → ℕ → ℕ → ℕ → List ℕ
-cycle_pieces before letter start period =
-    before ++ codes "\"" ++ encode_utf8 (97 + letter) ++ codes "\":[" ++ decimal start ++ codes ","
+cycle_pieces before name start period =
+    before ++ codes "\"" ++ encode_utf8 name ++ codes "\":[" ++ decimal start ++ codes ","
     ++ decimal period ++ codes "]"
 
 abbrev pub cycle_json : ℕ → ℕ × ℕ → List ℕ
-cycle_json letter cycle = cycle_pieces (front [] (codes ",") letter) letter cycle.0 cycle.1
+cycle_json letter cycle = cycle_pieces (front [] (codes ",") letter) (97 + letter) cycle.0 cycle.1
 
 abbrev pub cycles_in : List (ℕ × ℕ) → ℕ → List ℕ
 cycles_in cycles zero = []

@@ -30,12 +30,12 @@ portion_latex c = portion_pieces (index_latex c) (words_text Latex LETTERS [] (c
 
 -- a letter, from which exponent on the portion repeats along it, and after how many
 abbrev pub cycle_pieces : List ℕ → ℕ → ℕ → ℕ → List ℕ
-cycle_pieces before letter start period =
-    before ++ codes "along $" ++ encode_utf8 (97 + letter) ++ codes "$ from exponent $" ++ decimal start
+cycle_pieces before name start period =
+    before ++ codes "along $" ++ encode_utf8 name ++ codes "$ from exponent $" ++ decimal start
     ++ codes "$ with period $" ++ decimal period ++ codes "$"
 
 abbrev pub cycle_latex : ℕ → ℕ × ℕ → List ℕ
-cycle_latex letter cycle = cycle_pieces (front (codes " ") (codes ", ") letter) letter cycle.0 cycle.1
+cycle_latex letter cycle = cycle_pieces (front (codes " ") (codes ", ") letter) (97 + letter) cycle.0 cycle.1
 
 abbrev pub cycles_in : List (ℕ × ℕ) → ℕ → List ℕ
 cycles_in cycles zero = []
@@ -75,11 +75,17 @@ abbrev pub heaps_latex : PresentedSaid → List ℕ
 heaps_latex c = codes "heaps $" ++ heap_words_text Latex LETTERS [] (codes "$, $") c.words ++ codes "$\\\\\n"
 
 -- which heap is the last one, or how the words repeat
+abbrev pub last_pieces : ℕ → List ℕ
+last_pieces heaps = codes "heaps to $" ++ decimal heaps ++ codes "$\n\\end{flushleft}\n"
+
+abbrev pub repeat_pieces : ℕ → ℕ → List ℕ
+repeat_pieces period start =
+    codes "$\\Phi(n+" ++ decimal period ++ codes ")=\\Phi(n)$ for $n\\ge" ++ decimal start
+    ++ codes "$\n\\end{flushleft}\n"
+
 abbrev pub tail_latex : PresentedSaid → List ℕ
 tail_latex c =
-    if c.period == 0 then codes "heaps to $" ++ decimal c.heaps ++ codes "$\n\\end{flushleft}\n"
-    else codes "$\\Phi(n+" ++ decimal c.period ++ codes ")=\\Phi(n)$ for $n\\ge"
-    ++ decimal (c.heaps - c.period + 1) ++ codes "$\n\\end{flushleft}\n"
+    if c.period == 0 then last_pieces c.heaps else repeat_pieces c.period (c.heaps - c.period + 1)
 
 -- the lines of the monoid, those of the heaps, and all
 abbrev pub monoid_latex : PresentedSaid → List ℕ

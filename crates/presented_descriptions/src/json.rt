@@ -96,14 +96,12 @@ fn generators_text(alloc: Global, heaps: &[u16]) -> Result<String, AllocError>
 fn cycle_pieces(
     alloc: Global,
     before: &str,
-    letter: usize,
+    name: char,
     start: u16,
     period: u16,
 ) -> Result<String, AllocError>
-    requires { letter < LETTERS }
-    ensures { IfOk result (λ t. string_bytes t ≡ cycle_pieces before.now letter start period) }
+    ensures { IfOk result (λ t. string_bytes t ≡ cycle_pieces before.now name start period) }
 {
-    let name = name(letter);
     let text = format!(in alloc; "{before}\"{name}\":[{start},{period}]")?;
     Ok(text)
 }
@@ -114,7 +112,7 @@ fn cycle_json(alloc: Global, letter: usize, cycle: &LetterCycle) -> Result<Strin
     ensures { IfOk result (λ t. string_bytes t ≡ cycle_json letter cycle.now) }
 {
     let before = front("", ",", letter);
-    cycle_pieces(alloc, before, letter, cycle.start, cycle.period)
+    cycle_pieces(alloc, before, name(letter), cycle.start, cycle.period)
 }
 
 /// Those of all letters.

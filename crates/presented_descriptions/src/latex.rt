@@ -2,7 +2,7 @@
 ghost use Rattle.std.specs.Prelude.{◌≡◌, ◌≤◌, ◌<◌, IfOk, length};
 ghost use Rattle.std.specs.String.{string_bytes};
 ghost use Rattle.presentations.specs.declared.TheConstants.{LETTERS};
-ghost use Rattle.presented_descriptions.specs.Latex.{count_latex, count_pieces, cycle_latex, cycle_pieces, cycles_in, cycles_latex, generator_latex, generators_in, generators_latex, head_latex, head_pieces, heap_latex, heaps_latex, index_latex, latex_text, monoid_latex, order_latex, portion_latex, portion_pieces, tail_latex};
+ghost use Rattle.presented_descriptions.specs.Latex.{count_latex, count_pieces, cycle_latex, cycle_pieces, cycles_in, cycles_latex, generator_latex, generators_in, generators_latex, head_latex, head_pieces, heap_latex, heaps_latex, index_latex, last_pieces, latex_text, monoid_latex, order_latex, portion_latex, portion_pieces, repeat_pieces, tail_latex};
 
 use crate::lists::{
     all_three, front, heap_words_text, letters_text, name, relations_text, words_text,
@@ -98,14 +98,12 @@ fn portion_latex<A: Allocator>(alloc: Global, said: &Presented<A>) -> Result<Str
 fn cycle_pieces(
     alloc: Global,
     before: &str,
-    letter: usize,
+    name: char,
     start: u16,
     period: u16,
 ) -> Result<String, AllocError>
-    requires { letter < LETTERS }
-    ensures { IfOk result (λ t. string_bytes t ≡ cycle_pieces before.now letter start period) }
+    ensures { IfOk result (λ t. string_bytes t ≡ cycle_pieces before.now name start period) }
 {
-    let name = name(letter);
     let text = format!(in alloc;
         "{before}along ${name}$ from exponent ${start}$ with period ${period}$"
     )?;
@@ -118,7 +116,7 @@ fn cycle_latex(alloc: Global, letter: usize, cycle: &LetterCycle) -> Result<Stri
     ensures { IfOk result (λ t. string_bytes t ≡ cycle_latex letter cycle.now) }
 {
     let before = front(" ", ", ", letter);
-    cycle_pieces(alloc, before, letter, cycle.start, cycle.period)
+    cycle_pieces(alloc, before, name(letter), cycle.start, cycle.period)
 }
 
 /// Those of all letters.
@@ -240,20 +238,32 @@ fn heaps_latex<A: Allocator>(alloc: Global, said: &Presented<A>) -> Result<Strin
     Ok(text)
 }
 
-/// Which heap is the last one, or how the words repeat.
-fn tail_latex<A: Allocator>(alloc: Global, said: &Presented<A>) -> Result<String, AllocError>
-    ensures { IfOk result (λ t. string_bytes t ≡ tail_latex said.now) }
+/// Which heap is the last one.
+fn last_pieces(alloc: Global, heaps: u16) -> Result<String, AllocError>
+    ensures { IfOk result (λ t. string_bytes t ≡ last_pieces heaps) }
 {
-    let (heaps, period) = (said.heaps, said.period);
-    if period == 0 {
-        let text = format!(in alloc; "heaps to ${heaps}$\n\\end{{flushleft}}\n")?;
-        return Ok(text);
-    }
-    let start = start_of(said);
+    let text = format!(in alloc; "heaps to ${heaps}$\n\\end{{flushleft}}\n")?;
+    Ok(text)
+}
+
+/// How the words repeat.
+fn repeat_pieces(alloc: Global, period: u16, start: u32) -> Result<String, AllocError>
+    ensures { IfOk result (λ t. string_bytes t ≡ repeat_pieces period start) }
+{
     let text = format!(in alloc;
         "$\\Phi(n+{period})=\\Phi(n)$ for $n\\ge{start}$\n\\end{{flushleft}}\n"
     )?;
     Ok(text)
+}
+
+/// Which heap is the last one, or how the words repeat.
+fn tail_latex<A: Allocator>(alloc: Global, said: &Presented<A>) -> Result<String, AllocError>
+    ensures { IfOk result (λ t. string_bytes t ≡ tail_latex said.now) }
+{
+    if said.period == 0 {
+        return last_pieces(alloc, said.heaps);
+    }
+    repeat_pieces(alloc, said.period, start_of(said))
 }
 
 /// The lines of the monoid: its letters and relations, its portion, and the cycles.

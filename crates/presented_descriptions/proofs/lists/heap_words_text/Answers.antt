@@ -1,6 +1,6 @@
-use Rattle.std.proofs.Common.{◌++◌, None, ap, ap₂, slice_index_or, ◌∙◌}
-use Rattle.presented_descriptions.specs.Lists.{heap_word, heap_words_in}
-use Rattle.presented_descriptions.proofs.Next.{next}
+use Rattle.std.proofs.Common.{◌++◌, None, ap, ap₂, slice_index_or, sym, ◌∙◌}
+use Rattle.presented_descriptions.specs.Lists.{heap_word}
+use Rattle.presented_descriptions.proofs.Next.{next-heap-word}
 use Rattle.presented_descriptions.proofs.lists.heap_words_text.Goals as goal
 
 pub loop-k-preserved : goal.loop-k-preserved
@@ -10,5 +10,4 @@ loop-k-preserved c =
     (c.as_str.ensures.value ∙ c.in_ok-item.ensures
     ∙ ap (λ f. f ++ heap_word c.args.notation c.args.letters (slice_index_or c.args.words.now c.loop-k.k None))
     c.front.ensures)
-    ∙ ap (heap_words_in c.args.notation c.args.letters c.args.first.now c.args.between.now c.args.words.now)
-    (next c.loop-k.k)
+    ∙ sym (next-heap-word c.args.notation c.args.letters c.args.first.now c.args.between.now c.args.words.now c.loop-k.k)

@@ -1,7 +1,6 @@
-use Rattle.std.proofs.Common.{◌++◌, [], ap, ap₂, slice_index_or, ◌∙◌}
+use Rattle.std.proofs.Common.{◌++◌, [], ap, ap₂, slice_index_or, sym, ◌∙◌}
 use Rattle.relations.specs.Printed.{word_text}
-use Rattle.presented_descriptions.specs.Lists.{words_in}
-use Rattle.presented_descriptions.proofs.Next.{next}
+use Rattle.presented_descriptions.proofs.Next.{next-word}
 use Rattle.presented_descriptions.proofs.lists.words_text.Goals as goal
 
 pub loop-k-preserved : goal.loop-k-preserved
@@ -11,5 +10,4 @@ loop-k-preserved c =
     (c.as_str.ensures.value ∙ c.in_ok-item.ensures
     ∙ ap (λ f. f ++ word_text c.args.notation c.args.letters (slice_index_or c.args.words.now c.loop-k.k []))
     c.front.ensures)
-    ∙ ap (words_in c.args.notation c.args.letters c.args.first.now c.args.between.now c.args.words.now)
-    (next c.loop-k.k)
+    ∙ sym (next-word c.args.notation c.args.letters c.args.first.now c.args.between.now c.args.words.now c.loop-k.k)
