@@ -70,7 +70,8 @@ fn yes_text(alloc: Global, quotient: &PresentedQuotient) -> Result<String, Memor
 pub fn presented_said(alloc: Global, bytes: &[u8]) -> Result<Said, Memory>
     ensures { IfOk result (λ s. TellsPresented bytes.now s.text.items s.succeeds) }
 {
-    match judged_presented(alloc, bytes)? {
+    let found = judged_presented(alloc, bytes)?;
+    match found {
         Ok(quotient) => {
             let text = yes_text(alloc, &quotient)?;
             Ok(Said::done(text))
