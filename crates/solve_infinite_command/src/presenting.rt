@@ -39,8 +39,10 @@ fn unpresented_text(alloc: Global, why: Unpresented) -> Result<String, Memory>
 fn unfound(alloc: Global, code: &Code, bounds: PartsBounds, why: Unfound) -> Result<Said, Memory>
     ensures { IfOk result (λ s. FindsPresented code.now bounds s.text.items s.succeeds) }
 {
-    let text = reason_text(alloc, why)?;
-    Ok(Said::no(text.into_bytes()))
+    Ok(Said {
+        text: reason_text(alloc, why)?.into_bytes(),
+        succeeds: false,
+    })
 }
 
 /// Says that a certificate was found, and no presentation.
@@ -52,8 +54,10 @@ fn unpresented(
 ) -> Result<Said, Memory>
     ensures { IfOk result (λ s. FindsPresented code.now bounds s.text.items s.succeeds) }
 {
-    let text = unpresented_text(alloc, why)?;
-    Ok(Said::no(text.into_bytes()))
+    Ok(Said {
+        text: unpresented_text(alloc, why)?.into_bytes(),
+        succeeds: false,
+    })
 }
 
 /// Says a presentation that was found.
