@@ -16,10 +16,14 @@ head_pieces index code letters relations =
     codes "\\begin{flushleft}\n$\\mathcal{Q}" ++ index ++ codes "(\\mathbf{" ++ code ++ codes "})=\\langle "
     ++ letters ++ codes "\\mid " ++ relations ++ codes "\\rangle$\\\\\n"
 
+abbrev pub letters_latex : PresentedSaid → List ℕ
+letters_latex c = letters_text [] (codes ",") (length c.letters)
+
+abbrev pub relations_latex : PresentedSaid → List ℕ
+relations_latex c = relations_text Latex LETTERS [] (codes "$, $") c.relations
+
 abbrev pub head_latex : PresentedSaid → List ℕ
-head_latex c =
-    head_pieces (index_latex c) (code_text c.code) (letters_text [] (codes ",") (length c.letters))
-    (relations_text Latex LETTERS [] (codes "$, $") c.relations)
+head_latex c = head_pieces (index_latex c) (code_text c.code) (letters_latex c) (relations_latex c)
 
 -- the words of the portion
 abbrev pub portion_pieces : List ℕ → List ℕ → List ℕ

@@ -1,6 +1,6 @@
 -- Words and relations of a presentation in texts, and lists of them, as `describe` prints those of a finite quotient.
 -- This project's own.
-use Rattle.std.specs.Prelude.{ℕ, zero, suc, ◌+◌, ◌==◌, List, [], ◌++◌, Option, Some, None, length, slice_index_or, if◌then◌else◌, codes, decimal, encode_utf8}
+use Rattle.std.specs.Prelude.{ℕ, zero, suc, ◌+◌, ◌==◌, List, [], ◌++◌, Option, Some, None, length, slice_index_or, if◌then◌else◌, codes, encode_utf8}
 use Rattle.relations.specs.Printed.{word_text, equal_text}
 use Rattle.relations.specs.declared.text.Notation.{Notation}
 use Rattle.relations.specs.declared.text.Notation.TheVariants.{Plain, Latex, Json}

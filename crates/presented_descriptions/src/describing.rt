@@ -31,8 +31,8 @@ fn text_of<A: Allocator>(
     }
 }
 
-/// What a presentation says: the quotient by generators and relations, its portion and the cycles, how many elements there
-/// are, the heaps of the letters, the words of the heaps, and how these repeat or which heap is the last.
+/// What a presentation says: the quotient by generators and relations, its portion and the cycles, how many elements
+/// there are, the heaps of the letters, the words of the heaps, and how these repeat or which heap is the last.
 pub fn presented_text<A: Allocator>(
     alloc: Global,
     quotient: &PresentedQuotient<A>,

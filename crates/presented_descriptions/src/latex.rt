@@ -2,7 +2,7 @@
 ghost use Rattle.std.specs.Prelude.{◌≡◌, ◌≤◌, ◌<◌, IfOk, length};
 ghost use Rattle.std.specs.String.{string_bytes};
 ghost use Rattle.presentations.specs.declared.TheConstants.{LETTERS};
-ghost use Rattle.presented_descriptions.specs.Latex.{count_latex, count_pieces, cycle_latex, cycle_pieces, cycles_in, cycles_latex, generator_latex, generators_in, generators_latex, head_latex, head_pieces, heap_latex, heaps_latex, index_latex, last_pieces, latex_text, monoid_latex, order_latex, portion_latex, portion_pieces, repeat_pieces, tail_latex};
+ghost use Rattle.presented_descriptions.specs.Latex.{count_latex, count_pieces, cycle_latex, cycle_pieces, cycles_in, cycles_latex, generator_latex, generators_in, generators_latex, head_latex, head_pieces, heap_latex, heaps_latex, index_latex, last_pieces, latex_text, letters_latex, monoid_latex, order_latex, portion_latex, portion_pieces, relations_latex, repeat_pieces, tail_latex};
 
 use crate::lists::{
     all_three, front, heap_words_text, letters_text, name, relations_text, words_text,
@@ -44,6 +44,22 @@ fn head_pieces(
     Ok(text)
 }
 
+/// The letters.
+fn letters_latex<A: Allocator>(alloc: Global, said: &Presented<A>) -> Result<String, AllocError>
+    requires { length said.now.letters ≤ LETTERS }
+    ensures { IfOk result (λ t. string_bytes t ≡ letters_latex said.now) }
+{
+    letters_text(alloc, "", ",", said.letters.len())
+}
+
+/// The relations.
+fn relations_latex<A: Allocator>(alloc: Global, said: &Presented<A>) -> Result<String, AllocError>
+    ensures { IfOk result (λ t. string_bytes t ≡ relations_latex said.now) }
+{
+    let rules = said.basis.rules();
+    relations_text(alloc, Notation::Latex, LETTERS as u8, "", "$, $", rules)
+}
+
 /// The game, the letters and the relations.
 fn head_latex<A: Allocator>(alloc: Global, said: &Presented<A>) -> Result<String, Memory>
     requires { length said.now.letters ≤ LETTERS }
@@ -51,15 +67,8 @@ fn head_latex<A: Allocator>(alloc: Global, said: &Presented<A>) -> Result<String
 {
     let index = index_latex(alloc, said)?;
     let code = said.code.text(alloc)?;
-    let letters = letters_text(alloc, "", ",", said.letters.len())?;
-    let relations = relations_text(
-        alloc,
-        Notation::Latex,
-        LETTERS as u8,
-        "",
-        "$, $",
-        said.basis.rules(),
-    )?;
+    let letters = letters_latex(alloc, said)?;
+    let relations = relations_latex(alloc, said)?;
     let text = head_pieces(
         alloc,
         index.as_str(),
