@@ -18,8 +18,11 @@ value_line e outcome sizes = codes "element " ++ decimal e ++ codes " " ++ outco
     ++ codes " " ++ position_text sizes ++ codes "\n"
 
 -- an element by its word, and its outcome
+abbrev pub form_pieces : List ℕ → List ℕ → List ℕ
+form_pieces word letter = codes "element " ++ word ++ codes " " ++ letter ++ codes "\n"
+
 abbrev pub form_line : List ℕ → Outcome → List ℕ
-form_line w outcome = codes "element " ++ word_text Plain LETTERS w ++ codes " " ++ outcome_letter outcome ++ codes "\n"
+form_line w outcome = form_pieces (word_text Plain LETTERS w) (outcome_letter outcome)
 
 -- a triple, and its outcome
 abbrev pub triple_line : Triple → Outcome → List ℕ

@@ -3,7 +3,7 @@ ghost use Rattle.std.specs.Prelude.{◌≡◌, IfOk};
 ghost use Rattle.std.specs.String.{string_bytes};
 ghost use Rattle.infinite_player.specs.Values.{triple_told};
 ghost use Rattle.positions.specs.Text.{position_text};
-ghost use Rattle.position_commands.specs.Lines.{alike_line, apart_line, form_line, heavy_line, many_line, outcome_letter, triple_line, untried_line, value_line};
+ghost use Rattle.position_commands.specs.Lines.{alike_line, apart_line, form_line, form_pieces, heavy_line, many_line, outcome_letter, triple_line, untried_line, value_line};
 
 use allocation::Memory;
 use infinite_player::WholeValue;
@@ -21,12 +21,20 @@ fn letter(outcome: Outcome) -> &'static str
     }
 }
 
+/// The line of an element by its word, and its outcome, of their texts.
+fn form_pieces(alloc: Global, word: &str, letter: &str) -> Result<String, AllocError>
+    ensures { IfOk result (λ t. string_bytes t ≡ form_pieces word.now letter.now) }
+{
+    let text = format!(in alloc; "element {word} {letter}\n")?;
+    Ok(text)
+}
+
 /// The line of an element by its word, and its outcome.
 pub(crate) fn form_text(alloc: Global, form: &WideWord, outcome: Outcome) -> Result<String, Memory>
     ensures { IfOk result (λ t. string_bytes t ≡ form_line form.now outcome) }
 {
-    let (word, letter) = (word_text(alloc, form)?, letter(outcome));
-    let text = format!(in alloc; "element {word} {letter}\n")?;
+    let word = word_text(alloc, form)?;
+    let text = form_pieces(alloc, word.as_str(), letter(outcome))?;
     Ok(text)
 }
 
