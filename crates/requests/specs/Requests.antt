@@ -27,7 +27,7 @@ pub data Request : Type 0 where
   Solve : List ℕ → SolveBounds → Request
   SolveMany : List (List ℕ) → SolveBounds → Request
   SolveLines : SolveBounds → Request
-  SolveInfinite : List ℕ → PartsBounds → Request
+  SolveInfinite : List ℕ → PartsBounds → Bool → Request
   Series : List ℕ → PartsBounds → Request
   Show : Option (List ℕ) → ℕ → Request
   Tail : Option (List ℕ) → ℕ → Request
@@ -66,7 +66,7 @@ request_of (plan.Verify file limit) = Verify (option_map (λ f. f.now) file) lim
 request_of (plan.Solve code bounds) = Solve code.now bounds
 request_of (plan.SolveMany codes bounds) = SolveMany (map (λ c. c.now) codes.items) bounds
 request_of (plan.SolveLines bounds) = SolveLines bounds
-request_of (plan.SolveInfinite code bounds) = SolveInfinite code.now bounds
+request_of (plan.SolveInfinite code bounds presented) = SolveInfinite code.now bounds presented
 request_of (plan.Series code bounds) = Series code.now bounds
 request_of (plan.Show file limit) = Show (option_map (λ f. f.now) file) limit
 request_of (plan.Tail file limit) = Tail (option_map (λ f. f.now) file) limit

@@ -73,10 +73,11 @@ pub enum Plan<'a> {
         bounds: SolveBounds,
     },
     /// Look for a part of the code's game, the heaps 1 to some n, of which a certificate shows that its
-    /// quotient is infinite.
+    /// quotient is infinite; or, if it is to be presented, of which a presentation is right.
     SolveInfinite {
         code: &'a str,
         bounds: PartsBounds,
+        presented: bool,
     },
     /// Print how many elements the quotients of the first heaps of a code have.
     Series {
