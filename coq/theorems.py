@@ -95,8 +95,11 @@ class Text:
         return self.text.startswith(b"mqp ")
 
     @property
-    def is_endless(self) -> bool:
-        """A presentation in which each power of some letter is an element: Coq doesn't take such a text."""
+    def is_left_out(self) -> bool:
+        """A presentation that the checker of coq/ doesn't take: of a whole game, or in which each power of some letter is
+        an element."""
+        if self.is_presentation and " " in self.line("heaps", ""):
+            return True
         lefts = re.findall(r"^relation ([a-z])(?:\^\d+)? ", self.text.decode("latin-1"), re.M)
         letters = self.line("letters", "").split()
         return self.is_presentation and not set(LETTERS[: len(letters)]) <= set(lefts)
@@ -262,7 +265,7 @@ def in_folder(folder: pathlib.Path, right: bool = True) -> list[Text]:
         for file in sorted(folder.iterdir())
         if file.suffix in (".mqc", ".mqi", ".mqw", ".mqp")
     ]
-    return [it for it in texts if not it.is_endless]
+    return [it for it in texts if not it.is_left_out]
 
 
 def in_catalogue(file: pathlib.Path) -> list[Text]:
