@@ -96,8 +96,8 @@ class Text:
 
     @property
     def is_left_out(self) -> bool:
-        """A presentation that the checker of coq/ doesn't take: of a whole game, or in which each power of some letter is
-        an element."""
+        """A presentation that the checker of coq/ doesn't take: of a whole game, or in which each power of some letter
+        is an element."""
         if self.is_presentation and " " in self.line("heaps", ""):
             return True
         lefts = re.findall(r"^relation ([a-z])(?:\^\d+)? ", self.text.decode("latin-1"), re.M)
