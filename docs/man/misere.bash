@@ -8,10 +8,10 @@ _misere() {
         '') options="check solve series show describe play compare certify explain present catalogue desk infinite tail verify value apart help --help --version" ;;
         help) options="check solve series show describe play compare certify explain present catalogue desk infinite tail verify value apart help" ;;
         check) options="--limit --help" ;;
-        solve) options="--limit --rounds --heaps --deep --any --partial --furthest --order --why --infinite --help" ;;
+        solve) options="--limit --rounds --heaps --deep --any --partial --furthest --order --why --infinite --presented --help" ;;
         series) options="--order --heaps --limit --help" ;;
         show) options="--limit --help" ;;
-        describe) options="--latex --basis --relations --json --singular --gap --limit --help" ;;
+        describe) options="--latex --basis --relations --json --singular --gap --gap --structure --limit --help" ;;
         play) options="--all --limit --help" ;;
         compare) options="--limit --help" ;;
         certify) options="--limit --help" ;;

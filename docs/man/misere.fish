@@ -38,6 +38,7 @@ complete -c misere -n '__fish_seen_subcommand_from solve; and not __fish_seen_su
 complete -c misere -n '__fish_seen_subcommand_from solve; and not __fish_seen_subcommand_from help' -l order -x -d 'Propose no quotient of more than Q elements: 2 to 256, by default 64, with --deep, --any, --partial and --infinite 2 to 4096'
 complete -c misere -n '__fish_seen_subcommand_from solve; and not __fish_seen_subcommand_from help' -l why -d 'Tell why the search is given up'
 complete -c misere -n '__fish_seen_subcommand_from solve; and not __fish_seen_subcommand_from help' -l infinite -d 'Look for a part, the heaps 1 to some n, of which a certificate shows that its quotient is infinite: n to M of --heaps, 1 to 1024, by default 64'
+complete -c misere -n '__fish_seen_subcommand_from solve; and not __fish_seen_subcommand_from help' -l presented -d 'With --infinite: print the presentation of its quotient'
 complete -c misere -n '__fish_seen_subcommand_from solve; and not __fish_seen_subcommand_from help' -l help -d 'Print help'
 complete -c misere -n '__fish_seen_subcommand_from series; and not __fish_seen_subcommand_from help' -l order -x -d 'End before the first quotient that isn\'t found with at most Q elements: 2 to 4096, by default 256'
 complete -c misere -n '__fish_seen_subcommand_from series; and not __fish_seen_subcommand_from help' -l heaps -x -d 'End with n = M: 1 to 1024, by default 64'
@@ -53,6 +54,8 @@ complete -c misere -n '__fish_seen_subcommand_from describe; and not __fish_seen
 complete -c misere -n '__fish_seen_subcommand_from describe; and not __fish_seen_subcommand_from help' -l json -d 'Print it as one object of JSON'
 complete -c misere -n '__fish_seen_subcommand_from describe; and not __fish_seen_subcommand_from help' -l singular -d 'Print the ideal of the relations, for Singular'
 complete -c misere -n '__fish_seen_subcommand_from describe; and not __fish_seen_subcommand_from help' -l gap -d 'Print the ideal of the relations, for GAP'
+complete -c misere -n '__fish_seen_subcommand_from describe; and not __fish_seen_subcommand_from help' -l gap -d 'Print the multiplication table, the portion and the heaps\' elements, for GAP'
+complete -c misere -n '__fish_seen_subcommand_from describe; and not __fish_seen_subcommand_from help' -l structure -d 'Print the idempotents, with the archimedean component and the group of each'
 complete -c misere -n '__fish_seen_subcommand_from describe; and not __fish_seen_subcommand_from help' -l limit -x -d 'Keep at most N members of a closure: 1 to 1000000, by default 100000'
 complete -c misere -n '__fish_seen_subcommand_from describe; and not __fish_seen_subcommand_from help' -l help -d 'Print help'
 complete -c misere -n '__fish_seen_subcommand_from play; and not __fish_seen_subcommand_from help' -F
