@@ -47,7 +47,7 @@ enum {
     MISERE_GAVE_UP = 13,      /* no certificate was found */
     MISERE_NO_ROOM = 14,      /* the result is longer than the room for it */
     MISERE_NOT_IN_RANGE = 15, /* a bound of the search, or a choice, is out of its range */
-    MISERE_NOT_DESCRIBED = 16, /* the quotient is not described within the bounds */
+    MISERE_NOT_DESCRIBED = 16, /* the quotient is not described within the bounds, or there is no such text of it */
     MISERE_NOT_OPEN = 17,     /* nothing is opened there */
     MISERE_BEYOND = 23,       /* the certificate does not speak of all the heaps */
     /* refusals of infinite quotients, beside 1, 2, 4, 7, 8 and 9 */
@@ -153,6 +153,12 @@ uint32_t misere_solve_why(const uint8_t *code, size_t length, uint32_t limit, ui
 uint32_t misere_solve_infinite(const uint8_t *code, size_t length, uint32_t limit, uint32_t heaps,
                                uint32_t order, uint8_t *told, size_t room, uint64_t *count);
 
+/* As misere_solve_infinite, but the quotient is presented by generators and relations, as `misere solve CODE
+ * --infinite --presented` does: of the heaps 1 to some heap up to `heaps`. With MISERE_GAVE_UP it writes the
+ * line that says how. */
+uint32_t misere_solve_presented(const uint8_t *code, size_t length, uint32_t limit, uint32_t heaps,
+                                uint32_t order, uint8_t *told, size_t room, uint64_t *count);
+
 /* Certifies a quotient of your own, in any numbering of its elements. The bytes are the text of its
  * table, as `misere certify` reads it. These are its lines, each with its end, and beside them what they
  * say:
@@ -241,7 +247,8 @@ uint32_t misere_opened_describe(misere_opened *opened, uint32_t output, uint32_t
 /* Whether the bytes are an accepted text of an infinite quotient: it tells who wins each position of its
  * heaps, and their misere quotient is infinite. They are a certificate with tracks, which begins with
  * mqi 1, or a text of a whole game, mqw 1, of which each heap is one. MISERE_LIMIT is the limit of the
- * first here too. */
+ * first here too. Or they are a presentation by generators and relations, mqp 1: it is the misere quotient
+ * of its heaps, which may be infinite or finite, as misere_infinite_order tells. */
 uint32_t misere_check_infinite(const uint8_t *bytes, size_t length, uint32_t limit);
 
 /* Checks the bytes as misere_check_infinite does. With MISERE_OUTCOME it writes to *count how many heaps
@@ -249,7 +256,7 @@ uint32_t misere_check_infinite(const uint8_t *bytes, size_t length, uint32_t lim
 uint32_t misere_infinite_failure(const uint8_t *bytes, size_t length, uint32_t limit,
                                  uint64_t *told, size_t room, uint64_t *count);
 
-/* One owner of an opened infinite quotient. What is said of misere_opened holds of it, with its own
+/* One owner of what such bytes show, an infinite quotient or a presentation. What is said of misere_opened holds of it, with its own
  * calls. */
 typedef struct {
     uint64_t full; /* 0 where nothing is opened */
@@ -264,9 +271,12 @@ uint32_t misere_infinite_open(const uint8_t *bytes, size_t length, uint32_t limi
 uint32_t misere_infinite_share(misere_infinite *opened, misere_infinite *told);
 uint32_t misere_infinite_close(misere_infinite *opened);
 
-/* Of which heaps it speaks, in *told: 0 if of those of every size, and else the last one. Some before
- * that may be left out. */
+/* Of which heaps it speaks, in *told: 0 if of those of every size, and else the last one. Some may be
+ * left out. */
 uint32_t misere_infinite_kind(misere_infinite *opened, uint64_t *told);
+
+/* How many elements the quotient has, in *told, or 0 if it is infinite. */
+uint32_t misere_infinite_order(misere_infinite *opened, uint64_t *told);
 
 /* Writes the code of the game, such as "0.26", and to *count how many bytes it has; with MISERE_NO_ROOM
  * *count alone. */
@@ -274,7 +284,8 @@ uint32_t misere_infinite_code(misere_infinite *opened, uint8_t *told, size_t roo
 
 /* As misere_opened_outcome and misere_opened_answer. MISERE_BEYOND is answered for a heap above the last
  * one, and for one that the certificate leaves out. By a text of a whole game the answer is the first
- * winning move of those that leave at most one heap from its start on; if any wins, one of these does. */
+ * winning move of those that leave at most one heap from its start on, and by a presentation of those that
+ * leave at most one heap above the last of its list; if any wins, one of these does. */
 uint32_t misere_infinite_outcome(misere_infinite *opened, const uint64_t *heaps, size_t count,
                                  uint32_t *told);
 uint32_t misere_infinite_answer(misere_infinite *opened, uint64_t *heaps, size_t count,
@@ -288,9 +299,16 @@ uint32_t misere_infinite_answers(misere_infinite *opened, const uint64_t *heaps,
 
 /* Writes the description of what is opened, plain, for LaTeX or in JSON (MISERE_DESCRIPTION,
  * MISERE_LATEX, MISERE_JSON), and to *count how many bytes it has; with MISERE_NO_ROOM *count alone.
- * A whole game has none: MISERE_NOT_DESCRIBED. */
+ * A text of a whole game, mqw, has none: MISERE_NOT_DESCRIBED. */
 uint32_t misere_infinite_describe(misere_infinite *opened, uint32_t output, uint8_t *told, size_t room,
                                   uint64_t *count);
+
+/* Writes the element of the position by a presentation that is opened, as a word in its letters, such as "ab^2"
+ * or "1", and to *count how many bytes it has; with MISERE_NO_ROOM *count alone. Two positions are
+ * indistinguishable exactly if their words are the same. MISERE_NOT_A_HEAP and MISERE_BEYOND as above, and
+ * MISERE_NOT_DESCRIBED if what is opened is no presentation. */
+uint32_t misere_infinite_value(misere_infinite *opened, const uint64_t *heaps, size_t count, uint8_t *told,
+                               size_t room, uint64_t *length);
 
 #ifdef __cplusplus
 }

@@ -59,6 +59,9 @@ static uint32_t solve_why(void) {
 static uint32_t solve_infinite(void) {
     return misere_solve_infinite((const uint8_t *)"0.3", 3, 1000, 2, 8, told.text, sizeof told.text, &told.count);
 }
+static uint32_t solve_presented(void) {
+    return misere_solve_presented((const uint8_t *)"0.3", 3, 1000, 2, 8, told.text, sizeof told.text, &told.count);
+}
 static uint32_t certify(void) {
     static const char table[] = "table 1\ncode 0.3\norder 2\nstart 1\nperiod 2\nheaps 0 1\nportion 0\nrow 1 0\nrow 0 1\nend\n";
     return misere_certify((const uint8_t *)table, sizeof table - 1, MISERE_LIMIT, told.text, sizeof told.text, &told.count);
@@ -140,6 +143,7 @@ static uint32_t infinite_open_over(void) {
     return status;
 }
 static uint32_t infinite_kind(void) { return misere_infinite_kind(&infinite, &told.count); }
+static uint32_t infinite_order(void) { return misere_infinite_order(&infinite, &told.count); }
 static uint32_t infinite_code(void) { return misere_infinite_code(&infinite, told.text, sizeof told.text, &told.count); }
 static uint32_t infinite_outcome(void) { return misere_infinite_outcome(&infinite, heaps, 12, told.numbers); }
 static uint32_t infinite_answer(void) {
@@ -151,6 +155,9 @@ static uint32_t infinite_outcomes(void) { return misere_infinite_outcomes(&infin
 static uint32_t infinite_answers(void) { return misere_infinite_answers(&infinite, heaps, 12, ends, 2, told.moves, 2); }
 static uint32_t infinite_describe(void) {
     return misere_infinite_describe(&infinite, MISERE_LATEX, told.text, sizeof told.text, &told.count);
+}
+static uint32_t infinite_value(void) {
+    return misere_infinite_value(&infinite, heaps, 12, told.text, sizeof told.text, &told.count);
 }
 
 static const struct {
@@ -169,6 +176,7 @@ static const struct {
     {"solve", solve, 1},
     {"solve_why", solve_why, 1},
     {"solve_infinite", solve_infinite, 1},
+    {"solve_presented", solve_presented, 1},
     {"certify", certify, 1},
     {"certify what fails", certify_other, 1},
     {"describe", describe, 1},
@@ -188,12 +196,14 @@ static const struct {
     {"infinite_share", infinite_share, 1},
     {"infinite_open over another", infinite_open_over, 1},
     {"infinite_kind", infinite_kind, 0},
+    {"infinite_order", infinite_order, 0},
     {"infinite_code", infinite_code, 1},
     {"infinite_outcome", infinite_outcome, 0},
     {"infinite_answer", infinite_answer, 0},
     {"infinite_outcomes", infinite_outcomes, 0},
     {"infinite_answers", infinite_answers, 1},
     {"infinite_describe", infinite_describe, 1},
+    {"infinite_value", infinite_value, 1},
 };
 #define CALLS (sizeof calls_of / sizeof *calls_of)
 

@@ -20,7 +20,7 @@ class Option:
     """An option of a command: its name, its value's and what it is for."""
 
     def __init__(self, names: str, about: str) -> None:
-        found = re.search(r"--(\w+)(?: <(\w+)>)?", names)
+        found = re.search(r"--(\w[\w-]*)(?: <(\w+)>)?", names)
         assert found, names
         self.about, self.name, self.value = about, found[1], found[2]
 

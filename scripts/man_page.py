@@ -46,7 +46,8 @@ def messages() -> Iterator[str]:
 
 
 def usage(name: str, command: Command) -> str:
-    options = "".join(f" [\\-\\-{it.name}" + (f" \\fI{it.value}\\fB" if it.value else "") + "]" for it in command.own)
+    values = {it.name: f" \\fI{it.value}\\fB" if it.value else "" for it in command.own}
+    options = "".join(f" [{roff('--' + name)}{value}]" for name, value in values.items())
     words = "".join(
         (f" \\fI{it}\\fR" if it in command.needs else f" [\\fI{it}\\fR]") + (".." if it in command.repeated else "")
         for it, _ in command.arguments
@@ -60,7 +61,7 @@ def of_command(name: str, command: Command) -> Iterator[str]:
         yield from (".RS", ".TP", f"\\fI{words}\\fR", roff(about) + ".", ".RE")
     for it in command.own:
         value = f" \\fI{it.value}\\fR" if it.value else ""
-        yield from (".RS", ".TP", f"\\fB\\-\\-{it.name}\\fR{value}", roff(it.about) + ".", ".RE")
+        yield from (".RS", ".TP", f"\\fB{roff('--' + it.name)}\\fR{value}", roff(it.about) + ".", ".RE")
     if command.notes:
         yield from (".RS", ".PP", ".nf", *(f"\\&{roff(line)}" for line in command.notes.splitlines()), ".fi", ".RE")
 
@@ -70,7 +71,7 @@ def of_command(name: str, command: Command) -> Iterator[str]:
 FILES = {
     "/usr/share/misere/certificates": "Certificates of some games, and in the folder refused such as are refused.",
     "/usr/share/misere/atlas": "The catalogues octal.json and hexadecimal.json of small games, and parts.json.",
-    "/usr/share/misere/atlas/infinite": "Certificates of infinite quotients, a file each.",
+    "/usr/share/misere/atlas/infinite": "Certificates of infinite quotients and their presentations, a file each.",
     "/usr/share/misere/misere.html": "A page for browsers that shows these games, plays and checks, in one file.",
     "/usr/share/misere/scripts": "Scripts that search many codes, survey, merge, codes and survey_table, for Python 3.",
     "/usr/share/doc/misere": "The pages: README.md, docs/TUTORIAL.md to begin with, and the licences.",

@@ -83,7 +83,7 @@ const CALLS = {
   misere_solve_why: ["&[u8]", "u32", "u32", "u32", "u32", "u32", "&mut [u8]", "&mut u64"],
   misere_describe: ["&[u8]", "u32", "u32", "u32", "&mut [u8]", "&mut u64"],
 };
-/** Those for infinite quotients, in a module that has them. */
+/** Those for infinite quotients and for presentations, in a module that has them. */
 const INFINITE_CALLS = {
   misere_check_infinite: ["&[u8]", "u32"],
   misere_infinite_failure: ["&[u8]", "u32", "&mut [u64]", "&mut u64"],
@@ -94,6 +94,7 @@ const INFINITE_CALLS = {
   misere_infinite_outcomes: ["&mut OpenedInfinite", "&[u64]", "&[u64]", "&mut [u32]"],
   misere_infinite_answers: ["&mut OpenedInfinite", "&[u64]", "&[u64]", "&mut [MisereAnswer]"],
   misere_infinite_describe: ["&mut OpenedInfinite", "u32", "&mut [u8]", "&mut u64"],
+  misere_infinite_value: ["&mut OpenedInfinite", "&[u64]", "&mut [u8]", "&mut u64"],
   misere_solve_infinite: ["&[u8]", "u32", "u32", "u32", "&mut [u8]", "&mut u64"],
 };
 /** The fields of a MisereAnswer, each a number of 64 bits. */
@@ -290,7 +291,7 @@ export class Misere {
     return this.#text("misere_solve_why", [new TextEncoder().encode(code), ...bounds], MOST);
   }
 
-  /** Whether the module has the calls for infinite quotients, which the next six need. */
+  /** Whether the module has the calls for infinite quotients and presentations, which the next seven need. */
   knowsInfinite() {
     return Object.keys(INFINITE_CALLS).every((it) => it in this.#instance.exports);
   }
@@ -307,7 +308,8 @@ export class Misere {
   }
 
   /**
-   * Whether the bytes are an accepted certificate of an infinite quotient: throws the refusal where they aren't.
+   * Whether the bytes are an accepted certificate of an infinite quotient, or an accepted presentation: throws the
+   * refusal where they aren't.
    * @param {Uint8Array} bytes
    */
   checkInfinite(bytes, limit = LIMIT) {
@@ -342,7 +344,16 @@ export class Misere {
   }
 
   /**
-   * What a certificate of an infinite quotient says, as plain text, for LaTeX or in JSON.
+   * The element of a position by a presentation, as a word in its letters, such as `ab^2`, or `1`.
+   * @param {Uint8Array} bytes
+   * @param {Position} position
+   */
+  infiniteValue(bytes, position, limit = LIMIT) {
+    return this.#text("misere_infinite_value", [this.#open(bytes, limit), heapsOf(position)]);
+  }
+
+  /**
+   * What a certificate of an infinite quotient or a presentation says, as plain text, for LaTeX or in JSON.
    * @param {Uint8Array} bytes
    * @param {{output?: "description" | "latex" | "json", limit?: number}} how
    */

@@ -14,6 +14,7 @@
     misere.certify("0.1", [[0, 1], [1, 0]], heaps=[1, 0], portion=[1], period=1)  # one's own, in any numbering
     misere.check_infinite(pathlib.Path("0.354_heaps_5.mqi")).outcome([2, 4] + 7 * [5])  # 'P': no finite one says so
     misere.solve_infinite("0.26").outcome([2, 10**15])  # 'P', by a text of the whole game
+    misere.check_infinite(pathlib.Path("0.404_heaps_12.mqp")).value([7])  # 'ab', by generators and relations
 
 What outcome, value, answer and winning_move give is proved of every position, of any number of heaps of 1 to 10^18 (of
 a partial certificate: of its heaps), and so is what outcomes, values and answers give of many. describe's text is

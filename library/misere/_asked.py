@@ -19,11 +19,8 @@ Given = Union[bytes, str, "os.PathLike[str]"]
 # As many bytes are room for most descriptions
 USUAL_TEXT = 1 << 16
 # Which call checks a text that begins so, and what else is to be done with one
-CHECKS: Final = {b"mqc ": "check", b"mqi ": "check_infinite", b"mqw ": "check_infinite"}
-OTHERS: Final = {
-    b"mqp ": "a presentation is checked by the program alone, by `misere verify`",
-    b"tabl": "misere.certify takes a table of one's own",
-}
+CHECKS: Final = {b"mqc ": "check", **dict.fromkeys((b"mqi ", b"mqw ", b"mqp "), "check_infinite")}
+OTHERS: Final = {b"tabl": "misere.certify takes a table of one's own"}
 Self = TypeVar("Self", bound="Asked")
 
 
@@ -200,7 +197,7 @@ def number_of_output(output: str, outputs: Sequence[str | None]) -> int:
 
 
 def is_infinite(certificate: Given) -> bool:
-    """Whether it begins as the text of an infinite quotient does."""
+    """Whether it begins as the text of an infinite quotient does, or as a presentation."""
     return CHECKS.get(_bytes_of(certificate)[:4]) == "check_infinite"
 
 

@@ -160,7 +160,7 @@ class Finite(Certified):
 
 
 class Infinite(Certified):
-    """A certificate of an infinite quotient."""
+    """A text of an infinite quotient, or a presentation."""
 
     __slots__ = ()
     owner = InfiniteOwner
@@ -168,6 +168,7 @@ class Infinite(Certified):
     outcome, outcomes = library.misere_infinite_outcome, library.misere_infinite_outcomes
     answer, answers = library.misere_infinite_answer, library.misere_infinite_answers
     describe = library.misere_infinite_describe
+    order, value = library.misere_infinite_order, library.misere_infinite_value
     meanings = {LIMIT_MET: "more pairs, places, points or changes than the check takes"}
 
 

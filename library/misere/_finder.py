@@ -43,13 +43,14 @@ def check(certificate: Given, limit: int = LIMIT) -> Quotient:
 
 def check_infinite(certificate: Given, limit: int = LIMIT) -> InfiniteQuotient:
     """The infinite quotient that the certificate is of; or it raises Refused. The certificate is given as to `check`, and
-    begins with mqi 1, or with mqw 1 if it is of a whole game."""
+    begins with mqi 1, or with mqw 1 if it is of a whole game. A presentation, which begins with mqp 1, is taken too, though
+    its quotient may be finite."""
     return InfiniteQuotient(certificate, limit)
 
 
 def verify(certificate: Given, limit: int = LIMIT) -> Quotient | InfiniteQuotient:
-    """The quotient that the certificate is of, finite or infinite, by its first word: what `check` gives, or `check_infinite`;
-    or it raises Refused. `misere verify` does so too, and takes presentations besides."""
+    """The quotient that the certificate is of, finite or infinite, by its first word: what `check` gives, or of `mqi`, `mqw`
+    and `mqp` what `check_infinite` does; or it raises Refused. `misere verify` does so too."""
     return InfiniteQuotient(certificate, limit) if is_infinite(certificate) else Quotient(certificate, limit)
 
 
@@ -115,16 +116,22 @@ def solve_any(code: str, order: int = MOST_BY_FEW, limit: int = LIMIT, rounds: i
 
 
 def solve_infinite(
-    code: str, heaps: int = INFINITE_HEAPS, order: int = MOST_ELEMENTS, limit: int = LIMIT
+    code: str,
+    heaps: int = INFINITE_HEAPS,
+    order: int = MOST_ELEMENTS,
+    limit: int = LIMIT,
+    *,
+    presented: bool = False,
 ) -> InfiniteQuotient:
     """An infinite quotient of the game of a code or a name: that of the whole game, if its text is found, or else that of the
-    heaps 1 to some heap up to `heaps`; or it raises NotFound. So does `misere solve CODE --infinite`. Some searches take a
-    minute.
+    heaps 1 to some heap up to `heaps`; or it raises NotFound. So does `misere solve CODE --infinite`. With `presented` it is
+    that of the heaps 1 to some heap by generators and relations, as with `--presented`. Some searches take a minute.
 
     The heaps are 1 to 1024, the order 2 to 4096, and the limit 1 to 1000000."""
     code, text = _code_given(code)
     bounds = {"limit": number_of(limit), "heaps": number_of(heaps), "order": number_of(order)}
-    status, told = told_by(MOST_BYTES, library.misere_solve_infinite, text, len(text), *bounds.values())
+    call = library.misere_solve_presented if presented else library.misere_solve_infinite
+    status, told = told_by(MOST_BYTES, call, text, len(text), *bounds.values())
     if status == GAVE_UP:
         why = told.decode().strip().removeprefix("gave up: ")
         found_none = NotFound(GAVE_UP, f"no infinite quotient of {code} was found; the reason is: {why}")

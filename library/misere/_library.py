@@ -44,6 +44,7 @@ CALLS: dict[str, list[Any]] = {
     "misere_solve": [*_bytes, _number, _number, _number, _number, _number, _slice, _size, _count],
     "misere_solve_why": [*_bytes, _number, _number, _number, _number, _number, _slice, _size, _count],
     "misere_solve_infinite": [*_bytes, _number, _number, _number, _slice, _size, _count],
+    "misere_solve_presented": [*_bytes, _number, _number, _number, _slice, _size, _count],
     "misere_certify": [*_bytes, _number, _slice, _size, _count],
     "misere_describe": [*_bytes, _number, _number, _number, _slice, _size, _count],
     "misere_open": [*_bytes, _number, _owner],
@@ -62,12 +63,14 @@ CALLS: dict[str, list[Any]] = {
     "misere_infinite_share": [_owner, _owner],
     "misere_infinite_close": [_owner],
     "misere_infinite_kind": [_owner, _count],
+    "misere_infinite_order": [_owner, _count],
     "misere_infinite_code": [_owner, _slice, _size, _count],
     "misere_infinite_outcome": [_owner, _slice, _size, _word],
     "misere_infinite_answer": [_owner, _slice, _size, _move],
     "misere_infinite_outcomes": [_owner, _slice, _size, _slice, _size, _slice, _size],
     "misere_infinite_answers": [_owner, _slice, _size, _slice, _size, _slice, _size],
     "misere_infinite_describe": [_owner, _number, _slice, _size, _count],
+    "misere_infinite_value": [_owner, _slice, _size, _slice, _size, _count],
 }
 
 Call = Callable[..., int]

@@ -66,6 +66,26 @@ def infinite_html_of(description: str) -> str:
     return f"<div>{'<br>'.join(shown)}{family}{_rows('heap', ['element', '(down, up)'], heaps)}</div>"
 
 
+def presented_html_of(told: dict[str, Any]) -> str:
+    """What a presentation says in lines, with the words of the heaps in a table, of its values in JSON."""
+    period, heaps = told["period"], told["heaps"]
+    index = "" if period else f"<sub>{heaps}</sub>"
+    relations = ", ".join(f"{_word(left)} = {_word(right)}" for left, right in told["relations"])
+    order = "infinite" if told["order"] is None else f"order {told['order']}"
+    quotient = f"<i>Q</i>{index}(<b>{html.escape(told['code'])}</b>)"
+    cycles = ", ".join(f"{_word(letter)} {start}:{length}" for letter, (start, length) in told["cycles"].items())
+    lines = [
+        f"{quotient} = ⟨ {_row(told['generators'])} | {relations} ⟩",
+        f"<i>P</i>{index} = {{ {_row(told['portion'])} }}",
+        f"along letters the portion repeats: {cycles}",
+        f"{order}, relations {len(told['relations'])}, portion {len(told['portion'])}",
+        ", ".join(f"{_word(letter)} = Φ({heap})" for letter, heap in told["generators"].items()),
+    ]
+    words = ["-" if it is None else it for it in told["words"]]
+    ending = f"and so on from heap {heaps - period + 1}, with period {period}" if period else f"heaps to {heaps}"
+    return "<div>" + "<br>".join(lines) + _table(words, _columns(period)) + ending + "</div>"
+
+
 def whole_html_of(code: str, game: WholeGame) -> str:
     """The triples of a whole game's heaps in a table, and how they go on."""
     heaps = {str(heap): list(map(str, triple)) for heap, triple in enumerate(game.listed, 1)}
@@ -87,7 +107,7 @@ def powers_of(word: str) -> list[tuple[str, int]]:
 
 
 def _word(word: str) -> str:
-    if word == "1":
+    if word in ("1", "-"):
         return word
     return "".join(
         f"<i>{letter}</i>" + (f"<sup>{power}</sup>" if power > 1 else "") for letter, power in powers_of(word)

@@ -26,6 +26,11 @@ def whole(code: str) -> misere.InfiniteQuotient:
     return misere.check_infinite((samples / f"{code}.mqw").read_bytes())
 
 
+def presented(name: str) -> misere.InfiniteQuotient:
+    """That of a sample of a presentation."""
+    return misere.check_infinite((samples / f"{name}.mqp").read_bytes())
+
+
 def raised(call: Callable[[], object]) -> misere.MisereError | None:
     """What a call raises."""
     try:

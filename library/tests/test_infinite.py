@@ -260,11 +260,12 @@ ROWS = [
     ),
     Row(
         "a presentation",
-        lambda: misere.check_infinite(samples / "0.75_heaps_22.mqp"),
+        lambda: misere.check(samples / "0.75_heaps_22.mqp"),
         misere.Refused,
         1,
-        "a presentation is checked by the program alone",
+        "misere.check_infinite checks such a text",
     ),
+    Row("nothing that tells apart", lambda: OF.apart([1], [2]), misere.NotDescribed, 16, "only a presentation tells"),
     Row(
         "a table of one's own",
         lambda: misere.verify(b"table 1\ncode 0.3\n"),

@@ -1,4 +1,5 @@
-"""The calls on infinite quotients as they are built: of 0.354 with the heaps 1 to 5, and of all heaps of 0.26. Others found
+"""The calls on infinite quotients as they are built: of 0.354 with the heaps 1 to 5, and of all heaps of 0.26; and those on
+presentations, of 0.404 with the heaps 1 to 12, of 0.75 to heap 22, and of Kayles. Others found
 the first one's certificate, and refused the two that are near it; its outcomes are those of other programs, by a search
 through all plays. Those of 0.26 are by its theorem, which docs/WHOLE.md proves by hand."""
 
@@ -37,6 +38,13 @@ WRONG, SHORT = (
 WHOLE = (samples / "0.26.mqw").read_bytes()
 UNRULED = WHOLE.replace(b"leads 0 0 0 0 0 0 0 0 1", b"leads 0 0 0 0 0 0 0 0 0")
 LEADING = WHOLE.replace(b"leads 0 0 0 0", b"leads 1 0 0 0")
+# Presentations: an infinite quotient, a finite one, and a finite one of a whole game; one with a pair of relations that
+# doesn't join, one with an option that has no word, and one with a wrong portion
+PRESENTED, FINITE, KAYLES = ((samples / f"{it}.mqp").read_bytes() for it in ("0.404_heaps_12", "0.75_heaps_22", "0.77"))
+UNJOINED, LEAVING = (
+    (samples / f"refused/{it}.mqp").read_bytes() for it in ("law_pair_does_not_join", "part_heap_left_out")
+)
+MISTAKEN = FINITE.replace(b"portion a", b"portion 1 a")
 
 
 CHECKS = [
@@ -51,6 +59,13 @@ CHECKS = [
     Check("a text that no heap breaks, and no element", LEADING, LIMIT, 33),
     Check("no end of a whole game", WHOLE[:-4], LIMIT, 1),
     Check("another format of whole games", WHOLE.replace(b"mqw 1", b"mqw 2"), LIMIT, 1),
+    Check("presented", PRESENTED, LIMIT, 0),
+    Check("presented, which has no limit", FINITE, 1, 0),
+    Check("presented, of a whole game", KAYLES, LIMIT, 0),
+    Check("no end of a presentation", FINITE[:-4], LIMIT, 1),
+    Check("a pair that doesn't join", UNJOINED, LIMIT, 2),
+    Check("an option with no word", LEAVING, LIMIT, 31),
+    Check("a wrong portion", MISTAKEN, LIMIT, 7),
     Check("that of a finite quotient", (samples / "0.33.mqc").read_bytes(), LIMIT, 1),
 ]
 
@@ -77,11 +92,12 @@ FAILURES = [
 
 
 class Said(NamedTuple):
-    """A text, what its code is, and how far its heaps go: 0 of a whole game."""
+    """A text, what its code is, how far its heaps go, 0 of a whole game, and its order, 0 if it is infinite."""
 
     text: bytes
     code: bytes
     kind: int
+    order: int = 0
 
 
 SAID = [
@@ -89,6 +105,35 @@ SAID = [
     Said((samples / "0.07_heaps_34_without_33.mqi").read_bytes(), b"0.07", 34),
     Said(WHOLE, b"0.26", 0),
     Said((samples / "0.f3.mqw").read_bytes(), b"0.f3", 0),
+    Said(PRESENTED, b"0.404", 12),
+    Said(FINITE, b"0.75", 22, 8),
+    Said(KAYLES, b"0.77", 0, 40),
+]
+
+
+class Word(NamedTuple):
+    """A presentation, heaps, the room for a word, the status, how long it is, and the word if it is told."""
+
+    name: str
+    text: bytes
+    heaps: list[int]
+    room: int
+    status: int
+    length: int
+    word: bytes = b""
+
+
+WORDS = [
+    Word("nothing", PRESENTED, [], 8, 0, 1, b"1"),
+    Word("a square that is 1", PRESENTED, [3, 3], 8, 0, 1, b"1"),
+    Word("a heap of two letters", PRESENTED, [7], 8, 0, 2, b"ab"),
+    Word("as long as the room", PRESENTED, [9] * 100, 5, 0, 5, b"c^100"),
+    Word("longer than the room", PRESENTED, [9] * 100, 4, 14, 5),
+    Word("no heap's size", PRESENTED, [1, 0], 8, 10, UNCOUNTED),
+    Word("no word", PRESENTED, [13], 8, 23, UNCOUNTED),
+    Word("repeated", KAYLES, [1000], 8, 0, 4, b"ab^2"),
+    Word("by tracks", RIGHT, [1], 8, 16, UNCOUNTED),
+    Word("by triples", WHOLE, [0], 8, 16, UNCOUNTED),
 ]
 
 
@@ -148,6 +193,13 @@ MOVED_WHOLE = [
     Moved("ended", [1], (0, 0, 0, 0, 0)),
     Moved("of weight 0", [2], (1, 0, 0, 0, 0)),
     Moved("of weight 1", [3], (2, 3, 2, 0, 0)),
+]
+# Of 0.404: one token is taken, or three, and two heaps are left. So a heap 3 has one move, and one of 1 or 2 none
+MOVED_PRESENTED = [
+    Moved("no move is possible", [2, 1, 1], (0, 0, 0, 0, 0)),
+    Moved("one move", [3], (1, 0, 0, 0, 0)),
+    Moved("two moves, one after the other", [3, 3], (2, 3, 1, 1, 0)),
+    Moved("a move that leaves one move", [5], (2, 5, 1, 3, 0)),
 ]
 
 
@@ -279,6 +331,35 @@ class Opening(unittest.TestCase):
                 self.assertEqual((called("misere_infinite_kind", owner, kind), kind.value), (0, row.kind))
                 self.assertEqual(called("misere_infinite_close", owner), 0)
 
+    def test_each_tells_its_order(self) -> None:
+        told = ctypes.c_uint64(UNCOUNTED)
+        self.assertEqual((called("misere_infinite_order", Opened(), told), told.value), (17, UNCOUNTED))
+        for row in SAID:
+            with self.subTest(row.code):
+                owner = opened(row.text)
+                self.assertEqual((called("misere_infinite_order", owner, told), told.value), (0, row.order))
+                self.assertEqual(called("misere_infinite_close", owner), 0)
+
+    def test_positions_have_words(self) -> None:
+        told, count = text(8), ctypes.c_uint64(UNCOUNTED)
+        self.assertEqual(called("misere_infinite_value", Opened(), words([0]), told, count), 17)
+        self.assertEqual((count.value, set(told)), (UNCOUNTED, {UNTOLD}))
+        for row in WORDS:
+            with self.subTest(row.name):
+                owner, told, count = opened(row.text), text(8), ctypes.c_uint64(UNCOUNTED)
+                status = called("misere_infinite_value", owner, words(row.heaps), front(told, row.room), count)
+                self.assertEqual((status, count.value), (row.status, row.length))
+                self.assertEqual(bytes(told), row.word.ljust(8, bytes([UNTOLD])))
+                self.assertEqual(called("misere_infinite_close", owner), 0)
+
+    def test_presentations_are_described(self) -> None:
+        owner = opened(PRESENTED)
+        for output, status, beginning in ((0, 0, b"Q_12(0.404) = < a,b"), (1, 0, b"\\begin{flushleft}"), (2, 15, b"")):
+            told, count = text(4096), ctypes.c_uint64(UNCOUNTED)
+            self.assertEqual(called("misere_infinite_describe", owner, output, told, count), status, output)
+            self.assertEqual(bytes(told)[: len(beginning)], beginning)
+        self.assertEqual(called("misere_infinite_close", owner), 0)
+
     def test_whole_games_are_not_described(self) -> None:
         owner = opened(WHOLE)
         for output, status in ((0, 16), (1, 16), (2, 15), (3, 16), (4, 15)):
@@ -345,6 +426,17 @@ class Answering(unittest.TestCase):
         self.assertEqual(called("misere_infinite_answers", owner, words(given), words(ends), made), 0)
         self.assertEqual(told_in(told), [it.outcome for it in RULED])
         self.assertEqual([it.kind for it in made], [1 + it.outcome for it in RULED])
+        self.assertEqual(called("misere_infinite_close", owner), 0)
+
+    def test_presentations_are_played(self) -> None:
+        owner = opened(PRESENTED)
+        for row in MOVED_PRESENTED:
+            with self.subTest(row.name):
+                self.assertEqual(outcome_of(owner, row.heaps), (0, int(row.told[0] != 1)))
+                self.assertEqual(answer_of(owner, row.heaps), (0, row.told, sorted(row.heaps)))
+        for heaps, status in (([0], 10), ([13], 23)):
+            self.assertEqual(outcome_of(owner, heaps), (status, UNTOLD))
+            self.assertEqual(answer_of(owner, heaps), (status, NO_MOVE, heaps))
         self.assertEqual(called("misere_infinite_close", owner), 0)
 
     def test_many_positions_by_tracks_are_told(self) -> None:

@@ -4,6 +4,7 @@
 import {fieldsOf, nameOf} from "./certificate.js";
 import {infiniteName, infiniteOf, isInfinite} from "./infinite/fields.js";
 import {heldText} from "./infinite/held.js";
+import {isPresented, presentedName, presentedOf} from "./presented/fields.js";
 import {isWhole, wholeName, wholeOf} from "./whole/fields.js";
 
 /** Behind this the session's storage keeps a certificate under its name. */
@@ -28,7 +29,8 @@ export class Collection {
 
   /**
    * The certificate of a name: a code; a code and the last heap of a part, such as `0.75/8`; one of an infinite
-   * quotient, such as `0.07/34-33` for the heaps 1 to 34 without 33; or that of a whole game, such as `0.26/whole`.
+   * quotient, such as `0.07/34-33` for the heaps 1 to 34 without 33; that of a whole game, such as `0.26/whole`; or a
+   * presentation that was checked here, such as `0.404/presented-12`.
    * @param {string} name
    * @returns {Promise<string | null>}
    */
@@ -61,6 +63,7 @@ export class Collection {
 /** @param {string} text */
 function nameOfText(text) {
   if (isWhole(text)) return wholeName(wholeOf(text).code);
+  if (isPresented(text)) return presentedName(presentedOf(text));
   return isInfinite(text) ? infiniteName(infiniteOf(text)) : nameOf(fieldsOf(text));
 }
 

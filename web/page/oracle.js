@@ -1,6 +1,7 @@
-// What is asked of a certificate: by the calls for finite quotients, or by those for infinite ones.
+// What is asked of a certificate: by the calls for finite quotients, or by those for infinite ones and presentations.
 
 import {isInfinite} from "./infinite/fields.js";
+import {isPresented} from "./presented/fields.js";
 import {isWhole} from "./whole/fields.js";
 
 /** @typedef {import("../calls.js").Answer} Answer */
@@ -18,7 +19,7 @@ export class Oracle {
   constructor(prover, bytes) {
     this.#prover = prover;
     this.#bytes = bytes;
-    this.#isInfinite = isInfinite(bytes) || isWhole(bytes);
+    this.#isInfinite = isInfinite(bytes) || isWhole(bytes) || isPresented(bytes);
   }
 
   /**
@@ -53,6 +54,15 @@ export class Oracle {
    */
   async describe(output) {
     return (await this.#prover.ask(this.#isInfinite ? "describeInfinite" : "describe", this.#bytes, {output})).answer;
+  }
+
+  /**
+   * The element of a position by a presentation, as a word.
+   * @param {Position} heaps
+   * @returns {Promise<string>}
+   */
+  async word(heaps) {
+    return (await this.#prover.ask("infiniteValue", this.#bytes, heaps)).answer;
   }
 
   /**

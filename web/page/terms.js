@@ -18,6 +18,9 @@ export const TERMS = {
       "From a start on, a heap has the element of the heap that is smaller by the period. A partial quotient has " +
       "none: it has a last heap.",
   "Relations": "Equations between products of the generators, from which all equations between products follow.",
+  "Cycles":
+      "For each letter from which exponent on the portion repeats along it, and after how many: whether a word is in " +
+      "the portion is asked of the word with each exponent in its first period.",
   "Components": "An archimedean component: the elements of which one idempotent is a power.",
   "No finite quotient":
       "There are infinitely many positions that are pairwise distinguishable: beside some third position one of two " +

@@ -3,7 +3,10 @@ import assert from "node:assert/strict";
 import test from "node:test";
 import {gzipSync} from "node:zlib";
 
+import {readingOf} from "../page/play/reading.js";
+import * as fields from "../page/presented/fields.js";
 import {isPresented, presentedOf} from "../page/presented/fields.js";
+import {thirdsOf} from "../page/presented/third.js";
 import {Failure} from "../page/prover.js";
 import {lineTold} from "../page/refusals.js";
 import {faultOfText} from "../page/text_faults.js";
@@ -152,4 +155,33 @@ test("so it is of presentations, which are told as they stand there", () => {
   const whole =
       "mqp 1\ncode 0.001\nheaps 4 period 1\nletters 3\nwords 1 1 a 1\nrelation a^2 1\ncycle 2:1\nportion a\nend\n";
   assert.deepEqual([faultOfText(whole), presentedOf(whole).period], ["", 1]);
+});
+
+test("a presentation has a name, a verdict, and heaps of which it speaks", () => {
+  const [part, kayles] = ["0.75_heaps_22.mqp", "0.77.mqp"].map((file) => presentedOf(sample(file).toString()));
+  const without = presentedOf(sample("refused/part_heap_left_out.mqp").toString());
+  assert.deepEqual([part, kayles, without].map(fields.presentedName), [
+    "0.75/presented-22",
+    "0.77/presented",
+    "0.75/presented-22-10",
+  ]);
+  assert.deepEqual([part, kayles, without].map(fields.reachOf), [
+    "the heaps 1 to 22",
+    "all heaps",
+    "the heaps 1 to 22 without 10",
+  ]);
+  assert.equal(fields.presentedVerdict(part, 8), "yes 0.75 order 8 heaps 22");
+  assert.equal(fields.presentedVerdict(part, null), "infinite 0.75 heaps 22 relations 4");
+  assert.equal(fields.presentedVerdict(kayles, 40), "yes 0.77 order 40 start 71 period 12");
+  assert.deepEqual([[22], [23], [1n, 10n ** 18n]].map((heaps) => fields.speaksOf(part, heaps)), [true, false, false]);
+  assert.deepEqual([[82], [83], [1n, 10n ** 18n]].map((heaps) => fields.speaksOf(kayles, heaps)), [true, true, true]);
+  assert.deepEqual([[9], [10]].map((heaps) => fields.speaksOf(without, heaps)), [true, false]);
+  const {usual, reach, code} = readingOf(kayles.text);
+  assert.deepEqual([usual, reach, code], [[1, 2, 5], "all heaps", "0.77"]);
+});
+
+test("third positions are of the heaps of letters, fewer heaps first", () => {
+  assert.deepEqual(
+      thirdsOf([1, 2]), [[], [1], [2], [1, 1], [1, 2], [2, 2], [1, 1, 1], [1, 1, 2], [1, 2, 2], [2, 2, 2]]);
+  assert.equal(thirdsOf(Array.from({length: 26}, (_, at) => at + 1)).length, 2000);
 });

@@ -58,13 +58,13 @@ abbrev pub show : App
 show = command (codes "show") (needed (codes "file") ∷ option (codes "limit") ∷ [])
 
 -- describe [FILE] [--latex] [--basis] [--relations] [--json] [--singular] [--gap] [--gap-table]
--- [--structure] [--limit N]
+-- [--structure] [--presentation] [--limit N]
 abbrev pub describe : App
 describe = command (codes "describe")
     (optional (codes "file") ∷ flag (codes "latex") ∷ flag (codes "basis")
     ∷ flag (codes "relations") ∷ flag (codes "json") ∷ flag (codes "singular")
     ∷ flag (codes "gap") ∷ flag (codes "gap-table") ∷ flag (codes "structure")
-    ∷ option (codes "limit") ∷ [])
+    ∷ flag (codes "presentation") ∷ option (codes "limit") ∷ [])
 
 -- play FILE POSITION [--all] [--limit N]
 abbrev pub play : App

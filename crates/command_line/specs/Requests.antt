@@ -27,7 +27,7 @@ use Rattle.requests.specs.declared.plans.SolveBounds.{SolveBounds}
 use Rattle.requests.specs.declared.plans.Layout.{Layout}
 use Rattle.requests.specs.declared.plans.Layout.TheVariants as layout
 use Rattle.requests.specs.declared.plans.Output.{Output}
-use Rattle.requests.specs.declared.plans.Output.TheVariants.{Description, Latex, Json, Relations, Singular, Gap, GapTable, Structure}
+use Rattle.requests.specs.declared.plans.Output.TheVariants.{Description, Latex, Json, Relations, Singular, Gap, GapTable, Structure, Presentation}
 
 -- ---- what each command asks for with its arguments
 
@@ -99,16 +99,18 @@ is_relational rows =
     is_set (codes "latex") rows || is_set (codes "relations") rows || is_set (codes "json") rows
     || is_set (codes "singular") rows || is_set (codes "gap") rows
 
--- what --gap-table and --structure ask for beside one of them or none, and what is asked for without the two
-abbrev pub output_by : (table structure relational : Bool) → Option Output → Option Output
-output_by false false relational output = output
-output_by true false false output = Some GapTable
-output_by false true false output = Some Structure
-output_by _ _ _ output = None
+-- what --gap-table, --structure and --presentation ask for beside one of the others or none, and what is asked for
+-- without the three
+abbrev pub output_by : (table structure presentation relational : Bool) → Option Output → Option Output
+output_by false false false relational output = output
+output_by true false false false output = Some GapTable
+output_by false true false false output = Some Structure
+output_by false false true false output = Some Presentation
+output_by _ _ _ _ output = None
 
 abbrev pub output_in : List Row → Option Output
 output_in rows = output_by (is_set (codes "gap-table") rows) (is_set (codes "structure") rows)
-    (is_relational rows) (relational_in rows)
+    (is_set (codes "presentation") rows) (is_relational rows) (relational_in rows)
 
 -- two of the flags for relations stand together
 abbrev pub relational_conflicts : List Row → Bool
@@ -127,13 +129,16 @@ abbrev pub describe_conflicts : List Row → Bool
 describe_conflicts rows =
     let table = is_set (codes "gap-table") rows in
     let structure = is_set (codes "structure") rows in
-    if table || structure then (table && structure) || is_relational rows else relational_conflicts rows
+    let presentation = is_set (codes "presentation") rows in
+    if table || structure || presentation
+    then (table && structure) || (table && presentation) || (structure && presentation) || is_relational rows
+    else relational_conflicts rows
 
 -- by which of the two faults it is told that they do
 abbrev pub describe_exclusion : List Row → Option Exclusion
 describe_exclusion rows =
     if is_set (codes "gap-table") rows || is_set (codes "structure") rows
-    || is_set (codes "json") rows || is_set (codes "singular") rows || is_set (codes "gap") rows
+    || is_set (codes "presentation") rows || is_set (codes "json") rows || is_set (codes "singular") rows || is_set (codes "gap") rows
     then Some exclusion.Outputs
     else Some exclusion.Description
 

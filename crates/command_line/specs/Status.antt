@@ -40,7 +40,7 @@ exclusion_text exclusion.Compare =
 exclusion_text exclusion.Description = codes "misere: --latex goes without --relations\n"
 exclusion_text exclusion.Explain = codes "misere: one of FILE, --code and --position\n"
 exclusion_text exclusion.Outputs =
-    codes "misere: one of --latex, --relations, --json, --singular, --gap, --gap-table and --structure\n"
+    codes "misere: one of --latex, --relations, --json, --singular, --gap, --gap-table, --structure and --presentation\n"
 exclusion_text exclusion.Infinite = codes "misere: --show goes without POSITION\n"
 exclusion_text exclusion.Layout = codes "misere: --latex or --json goes with --show, one of them\n"
 exclusion_text exclusion.Play =

@@ -51,11 +51,12 @@ fn tail_plan<'a>(given: &ArgMatches<'a>) -> Result<Plan<'a>, UsageFault>
     Ok(Plan::Tail { file, limit })
 }
 
-/// What is to be printed of a quotient by its relations, where it is asked for by neither `--gap-table` nor
-/// `--structure`.
+/// What is to be printed of a quotient by its relations, where it is asked for by none of `--gap-table`, `--structure`
+/// and `--presentation`.
 fn relational(given: &ArgMatches<'_>) -> Result<Output, UsageFault>
     requires table { is_set (codes "gap-table") (arguments_of given.now) ≡ false }
     requires structure { is_set (codes "structure") (arguments_of given.now) ≡ false }
+    requires presentation { is_set (codes "presentation") (arguments_of given.now) ≡ false }
     ensures output { IfOk result (λ o. relational_in (arguments_of given.now) ≡ Some o) }
     ensures apart { IfOk result (λ _. relational_conflicts (arguments_of given.now) ≡ false) }
     ensures none { IfErr result (λ _. relational_in (arguments_of given.now) ≡ None) }
@@ -100,11 +101,13 @@ fn output(given: &ArgMatches<'_>) -> Result<Output, UsageFault>
     match (
         flag(given, "gap-table"),
         flag(given, "structure"),
+        flag(given, "presentation"),
         is_relational(given),
     ) {
-        (false, false, _) => relational(given),
-        (true, false, false) => Ok(Output::GapTable),
-        (false, true, false) => Ok(Output::Structure),
+        (false, false, false, _) => relational(given),
+        (true, false, false, false) => Ok(Output::GapTable),
+        (false, true, false, false) => Ok(Output::Structure),
+        (false, false, true, false) => Ok(Output::Presentation),
         _ => Err(UsageFault::Exclusive(Exclusion::Outputs)),
     }
 }

@@ -186,6 +186,7 @@ fn describe_command<'a>(alloc: Global) -> Result<Command<'a>, AllocError>
     let gap = "Print the ideal of the relations, for GAP";
     let table = "Print the multiplication table, the portion and the heaps' elements, for GAP";
     let structure = "Print the idempotents, with the archimedean component and the group of each";
+    let presentation = "Print the text of its presentation, which 'misere verify' checks";
     let made = Ok(command(alloc, "describe", about));
     let made = with_arg(made, optional(alloc, "file", "FILE", GIVEN));
     let made = with_arg(made, flag(alloc, "latex", latex));
@@ -196,6 +197,7 @@ fn describe_command<'a>(alloc: Global) -> Result<Command<'a>, AllocError>
     let made = with_arg(made, flag(alloc, "gap", gap));
     let made = with_arg(made, flag(alloc, "gap-table", table));
     let made = with_arg(made, flag(alloc, "structure", structure));
+    let made = with_arg(made, flag(alloc, "presentation", presentation));
     with_arg(made, limit(alloc))
 }
 

@@ -78,7 +78,7 @@ fn exclusion_line(exclusion: Exclusion) -> &'static str
         Exclusion::Description => "misere: --latex goes without --relations\n",
         Exclusion::Explain => "misere: one of FILE, --code and --position\n",
         Exclusion::Outputs => {
-            "misere: one of --latex, --relations, --json, --singular, --gap, --gap-table and --structure\n"
+            "misere: one of --latex, --relations, --json, --singular, --gap, --gap-table, --structure and --presentation\n"
         }
         Exclusion::Infinite => "misere: --show goes without POSITION\n",
         Exclusion::Layout => "misere: --latex or --json goes with --show, one of them\n",

@@ -7,7 +7,7 @@ use Rattle.describe_command.specs.Described.{Describes, form_of}
 use Rattle.describe_command.specs.Described.Describes.{ByQuotient, NoQuotient}
 use Rattle.given_quotients.specs.declared.giving.Quotient.TheVariants.{Finite, Whole, Presented}
 use Rattle.requests.specs.declared.plans.Output.{Output}
-use Rattle.requests.specs.declared.plans.Output.TheVariants.{Description, Latex, Json, Relations, Singular, Gap, GapTable, Structure}
+use Rattle.requests.specs.declared.plans.Output.TheVariants.{Description, Latex, Json, Relations, Singular, Gap, GapTable, Structure, Presentation}
 use Rattle.requests.specs.Requests.{Request}
 use Rattle.requests.specs.Requests.Request.{Check, Solve, SolveMany, SolveLines, Series, Show, Tail, Describe, Play, PlayLines, Present, Catalogue, Desk}
 use Rattle.requests.specs.Requests.Request.{Explain, Compare, Certify, SolveInfinite, Infinite, ShowInfinite, PlayInfinite, PlayInfiniteLines}
@@ -33,6 +33,7 @@ silent_description Are file Singular basis limit text succeeds told e (ByQuotien
 silent_description Are file Gap basis limit text succeeds told e (ByQuotient (Finite c) f h) = h.1
 silent_description Are file GapTable basis limit text succeeds told e (ByQuotient (Finite c) f h) = h.1
 silent_description Are file Structure basis limit text succeeds told e (ByQuotient (Finite c) f h) = h.1
+silent_description Are file Presentation basis limit text succeeds told e (ByQuotient (Finite c) f h) = h.1
 silent_description Are file Relations basis limit text succeeds told e (ByQuotient (Finite c) f h) = cc
 
 module _ (input : Option (List ℕ)) (before after : Option (List ℕ → Option (List ℕ))) where

@@ -1,12 +1,17 @@
--- What is said of the quotients that two files certify, and why nothing is. This project's own.
+-- What is said of the quotients that two files give, and why nothing is. This project's own.
 use Rattle.std.specs.Prelude.{◌≡◌, ◌⊎◌, ◌++◌, ℕ, Bool, true, false, List, Option, Some, None, Result, Ok, Err, Vec, codes}
 use Rattle.misere_theory.specs.Certificates.{Certificate, claim_of}
 use Rattle.isomorphisms.specs.Comparisons.{HasMoreLists, Tells}
 use Rattle.isomorphisms.specs.Isomorphism.{IsMap}
 use Rattle.isomorphisms.specs.declared.comparing.Difference.{Difference}
-use Rattle.check_command.specs.Checks.{Certifies, Checks, Failed, IsGivenCause}
+use Rattle.check_command.specs.Checks.{Failed, IsGivenCause}
+use Rattle.given_quotients.specs.Given.{Gives, Refuses}
+use Rattle.given_quotients.specs.declared.giving.Quotient.{Quotient as Found}
 use Rattle.command_results.specs.declared.stop.Stop.{Stop}
-use Rattle.compare_command.specs.Lines.{difference_lines, gave_up_line, same_lines}
+use Rattle.compare_command.specs.Lines.{difference_lines, endless_line, first_endless_lines, gave_up_line, same_lines, second_endless_lines, unmade_line}
+use Rattle.compare_command.specs.Operands.{IsOperandOf}
+use Rattle.compare_command.specs.declared.operands.Operand.{Operand}
+use Rattle.compare_command.specs.declared.operands.Operand.TheVariants.{Certificate as Certified, Endless, Unmade}
 use Rattle.compare_command.specs.declared.comparing.TheConstants.{MOST_LISTS}
 
 -- ---- what is said
@@ -20,29 +25,41 @@ SaysOf c d text false =
     ((why : Difference) × Tells c d why × (text ≡ difference_lines c d why))
     ⊎ (HasMoreLists c d MOST_LISTS × (text ≡ gave_up_line))
 
+-- The same of any two quotients. If one alone is infinite, they aren't isomorphic. Two infinite ones aren't compared, nor
+-- is a finite one that is presented, and of which no certificate was made.
+abbrev pub SaysOfOperands : Operand → Operand → List ℕ → Bool → Type 0
+SaysOfOperands (Certified c) (Certified d) text succeeds = SaysOf c d text succeeds
+SaysOfOperands (Certified c) Endless text succeeds = (text ≡ second_endless_lines) × (succeeds ≡ false)
+SaysOfOperands (Certified c) Unmade text succeeds = (text ≡ unmade_line) × (succeeds ≡ false)
+SaysOfOperands Endless (Certified d) text succeeds = (text ≡ first_endless_lines) × (succeeds ≡ false)
+SaysOfOperands Endless Endless text succeeds = (text ≡ endless_line) × (succeeds ≡ false)
+SaysOfOperands Endless Unmade text succeeds = (text ≡ first_endless_lines) × (succeeds ≡ false)
+SaysOfOperands Unmade (Certified d) text succeeds = (text ≡ unmade_line) × (succeeds ≡ false)
+SaysOfOperands Unmade Endless text succeeds = (text ≡ second_endless_lines) × (succeeds ≡ false)
+SaysOfOperands Unmade Unmade text succeeds = (text ≡ unmade_line) × (succeeds ≡ false)
+
 -- the same where the second was found, and the text of its no where it wasn't
-abbrev pub SaysFound : {A : Type 0} → Certificate → Result Certificate (Vec ℕ A) → List ℕ → Bool
-    → Type 0
-SaysFound c (Ok d) text succeeds = SaysOf c d text succeeds
-SaysFound c (Err refused) text succeeds =
+abbrev pub SaysFound : {A : Type 0} → Operand → Result Found (Vec ℕ A) → List ℕ → Bool → Type 0
+SaysFound s (Ok q) text succeeds = (t : Operand) × IsOperandOf q t × SaysOfOperands s t text succeeds
+SaysFound s (Err refused) text succeeds =
     (text ≡ codes "second: " ++ refused.items) × (succeeds ≡ false)
 
--- What is said of a quotient and that which such bytes certify under the limit, or a true no of
+-- What is said of a quotient and that which such bytes give under the limit, or a true no of
 -- these.
-pub data ComparesBeside (c : Certificate) (Are : List ℕ → Type 0) (limit : ℕ) (text : List ℕ)
+pub data ComparesBeside (s : Operand) (Are : List ℕ → Type 0) (limit : ℕ) (text : List ℕ)
     (succeeds : Bool) : Type 0 where
-  Quotient : (d : Certificate) → Certifies Are limit d → SaysOf c d text succeeds
-      → ComparesBeside c Are limit text succeeds
-  NoQuotient : (no : List ℕ) → Checks Are limit no false → text ≡ codes "second: " ++ no
-      → succeeds ≡ false → ComparesBeside c Are limit text succeeds
+  Quotient : (q : Found) (t : Operand) → Gives Are limit q → IsOperandOf q t → SaysOfOperands s t text succeeds
+      → ComparesBeside s Are limit text succeeds
+  NoQuotient : (no : List ℕ) → Refuses Are limit no → text ≡ codes "second: " ++ no
+      → succeeds ≡ false → ComparesBeside s Are limit text succeeds
 
--- What is said of the two quotients that such bytes certify under the limit, or a true no of the
+-- What is said of the two quotients that such bytes give under the limit, or a true no of the
 -- first bytes, or of the second.
 pub data Compares (Are Other : List ℕ → Type 0) (limit : ℕ) (text : List ℕ) (succeeds : Bool)
     : Type 0 where
-  Beside : (c : Certificate) → Certifies Are limit c → ComparesBeside c Other limit text succeeds
-      → Compares Are Other limit text succeeds
-  NoFirst : (no : List ℕ) → Checks Are limit no false → text ≡ codes "first: " ++ no
+  Beside : (q : Found) (s : Operand) → Gives Are limit q → IsOperandOf q s
+      → ComparesBeside s Other limit text succeeds → Compares Are Other limit text succeeds
+  NoFirst : (no : List ℕ) → Refuses Are limit no → text ≡ codes "first: " ++ no
       → succeeds ≡ false → Compares Are Other limit text succeeds
 
 -- what is known to be left of standard input for the second certificate: nothing is, where the first
@@ -53,9 +70,9 @@ left_behind (Some file) left = left
 
 -- ---- why nothing is said
 
--- such bytes certify a quotient under the limit
+-- such bytes give a quotient under the limit
 abbrev pub IsAccepted : (List ℕ → Type 0) → ℕ → Type 0
-IsAccepted Are limit = (c : Certificate) × Certifies Are limit c
+IsAccepted Are limit = (q : Found) × Gives Are limit q
 
 -- the one certificate isn't read, or the other, for its own cause; or memory was wanting
 abbrev pub IsCompareCause : Option (List ℕ) → Option (List ℕ) → Failed → Failed → Stop → Type 0

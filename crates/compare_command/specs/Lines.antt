@@ -31,6 +31,21 @@ matchless_lines element one other =
     codes "not isomorphic\nelement " ++ decimal element ++ codes " of the " ++ one
     ++ codes " like none of the " ++ other ++ codes "\n"
 
+-- that both are infinite, and not compared
+abbrev pub endless_line : List ℕ
+endless_line = codes "not compared: both are infinite\n"
+
+-- that one alone is infinite
+abbrev pub first_endless_lines : List ℕ
+first_endless_lines = codes "not isomorphic\nthe first alone is infinite\n"
+
+abbrev pub second_endless_lines : List ℕ
+second_endless_lines = codes "not isomorphic\nthe second alone is infinite\n"
+
+-- that no certificate was made of a finite quotient that is presented
+abbrev pub unmade_line : List ℕ
+unmade_line = codes "not compared: no certificate of a presentation\n"
+
 -- that no map is an isomorphism, and what is different
 abbrev pub difference_lines : Certificate → Certificate → Difference → List ℕ
 difference_lines c d Order = order_lines c.order d.order

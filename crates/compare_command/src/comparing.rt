@@ -1,14 +1,18 @@
 //! The comparison of the quotients of two files.
-ghost use Rattle.std.specs.Prelude.{◌≡◌, ◌⊎◌, ◌++◌, ◌||◌, false, IfOk, IfErr, is_none, is_some, option_map};
+ghost use Rattle.std.specs.Prelude.{◌≡◌, ◌⊎◌, ◌++◌, ◌||◌, codes, false, IfOk, IfErr, is_none, is_some, option_map};
 ghost use Rattle.check_command.specs.Checks.{AreGiven, IsGivenCause, failed};
-ghost use Rattle.compare_command.specs.Compared.{Compares, ComparesBeside, IsAccepted, IsCompareCause, SaysFound, SaysOf, left_behind};
+ghost use Rattle.compare_command.specs.Compared.{Compares, ComparesBeside, IsAccepted, IsCompareCause, SaysFound, SaysOf, SaysOfOperands, left_behind};
+ghost use Rattle.compare_command.specs.declared.operands.Operand.TheVariants.{Certificate, Endless, Unmade};
 
-use crate::texts::{difference_text, gave_up_text, same_text};
+use crate::operands::{Operand, operand_of};
+use crate::texts::{
+    ENDLESS, FIRST_ENDLESS, SECOND_ENDLESS, UNMADE, difference_text, gave_up_text, same_text,
+};
 use allocation::Memory;
 use answers::Certified;
-use check_command::certified;
 use command_results::{Said, Stop};
 use folders::Folder;
+use given_quotients::{Quotient, quotient_of};
 use isomorphisms::{Comparison, compared};
 use std::alloc::{AllocError, Global};
 use streams::Source;
@@ -29,6 +33,59 @@ fn said_of(alloc: Global, a: &Certified, b: &Certified) -> Result<Said, Memory>
     }
 }
 
+/// A line of a no.
+fn no_line(alloc: Global, line: &str) -> Result<Said, AllocError>
+    ensures text { IfOk result (λ s. s.text.items ≡ line.now) }
+    ensures succeeds { IfOk result (λ s. s.succeeds ≡ false) }
+{
+    let text = String::from_str(alloc, line)?;
+    Ok(Said::no(text.into_bytes()))
+}
+
+/// What is said of a finite quotient and another one.
+fn beside_certificate(alloc: Global, a: &Certified, b: &Operand) -> Result<Said, Memory>
+    ensures { IfOk result (λ s. SaysOfOperands (Certificate a.now) b.now s.text.items s.succeeds) }
+{
+    match b {
+        Operand::Certificate(b) => said_of(alloc, a, b),
+        Operand::Endless => Ok(no_line(alloc, SECOND_ENDLESS)?),
+        Operand::Unmade => Ok(no_line(alloc, UNMADE)?),
+    }
+}
+
+/// What is said of an infinite quotient and another one.
+fn beside_endless(alloc: Global, b: &Operand) -> Result<Said, AllocError>
+    ensures { IfOk result (λ s. SaysOfOperands Endless b.now s.text.items s.succeeds) }
+{
+    match b {
+        Operand::Certificate(_) => no_line(alloc, FIRST_ENDLESS),
+        Operand::Endless => no_line(alloc, ENDLESS),
+        Operand::Unmade => no_line(alloc, FIRST_ENDLESS),
+    }
+}
+
+/// What is said of a finite quotient without a certificate and another one.
+fn beside_unmade(alloc: Global, b: &Operand) -> Result<Said, AllocError>
+    ensures { IfOk result (λ s. SaysOfOperands Unmade b.now s.text.items s.succeeds) }
+{
+    match b {
+        Operand::Certificate(_) => no_line(alloc, UNMADE),
+        Operand::Endless => no_line(alloc, SECOND_ENDLESS),
+        Operand::Unmade => no_line(alloc, UNMADE),
+    }
+}
+
+/// What is said of two quotients.
+fn said_of_operands(alloc: Global, a: &Operand, b: &Operand) -> Result<Said, Memory>
+    ensures { IfOk result (λ s. SaysOfOperands a.now b.now s.text.items s.succeeds) }
+{
+    match a {
+        Operand::Certificate(a) => beside_certificate(alloc, a, b),
+        Operand::Endless => Ok(beside_endless(alloc, b)?),
+        Operand::Unmade => Ok(beside_unmade(alloc, b)?),
+    }
+}
+
 /// A no behind the word that says of which certificate it is.
 fn no_of(alloc: Global, which: &str, no: &[u8]) -> Result<Said, AllocError>
     ensures text { IfOk result (λ s. s.text.items ≡ which.now ++ no.now) }
@@ -43,21 +100,25 @@ fn no_of(alloc: Global, which: &str, no: &[u8]) -> Result<Said, AllocError>
 /// What is said of the two quotients, of which the second was found, or why it wasn't.
 fn said_beside(
     alloc: Global,
-    a: &Certified,
-    found: Result<Certified, Vec<u8>>,
+    a: &Operand,
+    found: Result<Quotient, Vec<u8>>,
+    limit: u32,
 ) -> Result<Said, Memory>
     ensures { IfOk result (λ s. SaysFound a.now found s.text.items s.succeeds) }
 {
     match found {
-        Ok(b) => said_of(alloc, a, &b),
+        Ok(quotient) => {
+            let b = operand_of(alloc, quotient, limit)?;
+            said_of_operands(alloc, a, &b)
+        }
         Err(no) => Ok(no_of(alloc, "second: ", &no)?),
     }
 }
 
-/// Compares the quotient with that which the second file certifies.
+/// Compares the quotient with that which the second file gives.
 fn compare_beside<'a, F: Folder, S: Source>(
     alloc: Global,
-    a: &Certified,
+    a: &Operand,
     second: Option<&'a str>,
     limit: u32,
     folder: &mut F,
@@ -74,17 +135,18 @@ fn compare_beside<'a, F: Folder, S: Source>(
     ensures folder { is_some (option_map (λ f. f.now) second.entry) ≡ false
         → folder.new ≡ folder.old }
 {
-    let found = certified(alloc, second, limit, folder, input)?;
-    match said_beside(alloc, a, found) {
+    let found = quotient_of(alloc, second, limit, folder, input)?;
+    match said_beside(alloc, a, found, limit) {
         Ok(said) => Ok(said),
         Err(Memory) => Err(Stop::Memory),
     }
 }
 
-/// Compares the quotients that the two files certify under the limit, where one that isn't named is
+/// Compares the quotients that the two files give under the limit, where one that isn't named is
 /// on standard input: that they are isomorphic as bipartite monoids, with the image of each element
 /// of the first; or that they aren't, and what tells them apart; or that there are more lists of
-/// images than are tried; or why a certificate isn't accepted, the first one's no where both aren't.
+/// images than are tried; or why a text isn't accepted, the first one's no where both aren't. A finite quotient that is
+/// presented is compared by the certificate of the same heaps, if one is made. Two infinite quotients aren't compared.
 pub fn compare<'a, F: Folder, S: Source>(
     alloc: Global,
     first: Option<&'a str>,
@@ -113,8 +175,11 @@ pub fn compare<'a, F: Folder, S: Source>(
     ensures folder { (is_some (option_map (λ f. f.now) first.entry)
         || is_some (option_map (λ f. f.now) second.entry)) ≡ false → folder.new ≡ folder.old }
 {
-    match certified(alloc, first, limit, folder, input)? {
-        Ok(a) => compare_beside(alloc, &a, second, limit, folder, input),
+    match quotient_of(alloc, first, limit, folder, input)? {
+        Ok(quotient) => {
+            let a = operand_of(alloc, quotient, limit)?;
+            compare_beside(alloc, &a, second, limit, folder, input)
+        }
         Err(no) => {
             let said = no_of(alloc, "first: ", &no)?;
             Ok(said)

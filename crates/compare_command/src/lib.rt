@@ -1,7 +1,9 @@
-//! `compare`: whether the quotients that two files certify are isomorphic as bipartite monoids.
+//! `compare`: whether the quotients that two files give are isomorphic as bipartite monoids.
 #![tactic(auto)]
 
 mod comparing;
+mod operands;
 mod texts;
 
 pub use comparing::{MOST_LISTS, compare};
+pub use operands::Operand;

@@ -9,6 +9,18 @@ use answers::Certified;
 use isomorphisms::{Difference, idempotents, portion_size};
 use std::alloc::{AllocError, Global};
 
+/// That two infinite quotients aren't compared.
+pub(crate) const ENDLESS: &str = "not compared: both are infinite\n";
+
+/// That the first quotient is infinite, and the second finite.
+pub(crate) const FIRST_ENDLESS: &str = "not isomorphic\nthe first alone is infinite\n";
+
+/// That the second quotient is infinite, and the first finite.
+pub(crate) const SECOND_ENDLESS: &str = "not isomorphic\nthe second alone is infinite\n";
+
+/// That no certificate was made of a finite quotient that is presented.
+pub(crate) const UNMADE: &str = "not compared: no certificate of a presentation\n";
+
 /// An image behind a space.
 fn image_word(alloc: Global, image: u16) -> Result<String, AllocError>
     ensures { IfOk result (λ t. string_bytes t ≡ 32 ∷ decimal image) }

@@ -1,11 +1,14 @@
 -- What `describe` prints. This project's own.
-use Rattle.std.specs.Prelude.{◌≡◌, ◌⊎◌, ℕ, Bool, true, false, List, ◌++◌, Option, None, option_map, Result, Ok, Err, Vec, codes}
+use Rattle.std.specs.Prelude.{◌≡◌, ◌⊎◌, ℕ, Bool, true, false, List, ◌++◌, length, Option, None, option_map, Result, Ok, Err, Vec, codes}
 use Rattle.misere_theory.specs.Certificates.{Certificate}
 use Rattle.dominance_text.specs.Said.{DominanceSaid}
 use Rattle.given_quotients.specs.Given.{Gives, Refuses}
 use Rattle.given_quotients.specs.declared.giving.Quotient.{Quotient}
 use Rattle.given_quotients.specs.declared.giving.Quotient.TheVariants.{Finite, Whole, Presented}
-use Rattle.presented_checker.specs.Refused.{Kept}
+use Rattle.presented_text.specs.Spelling.{SpellsPresented}
+use Rattle.presented_checker.specs.Refused.{Kept, IsRight}
+use Rattle.presentation_finder.specs.declared.finding.Unpresented.{Unpresented}
+use Rattle.presentation_finder.specs.declared.finding.Unpresented.TheVariants as search
 use Rattle.presented_descriptions.specs.Described.{presented_text_for}
 use Rattle.infinite_descriptions.specs.Whole.{IsWholeText}
 use Rattle.infinite_descriptions.specs.declared.describing.Output.TheVariants as infinite
@@ -28,7 +31,7 @@ use Rattle.relations.specs.declared.fault.Bound.TheVariants as bound
 use Rattle.relations.specs.declared.fault.Undescribed.{Undescribed}
 use Rattle.relations.specs.declared.fault.Undescribed.TheVariants.{Bound as Told, Memory as NoMemory}
 use Rattle.requests.specs.declared.plans.Output.{Output}
-use Rattle.requests.specs.declared.plans.Output.TheVariants.{Description, Latex, Json, Relations, Singular, Gap, GapTable, Structure}
+use Rattle.requests.specs.declared.plans.Output.TheVariants.{Description, Latex, Json, Relations, Singular, Gap, GapTable, Structure, Presentation}
 
 -- the form that is asked for: the basis, or a short list
 abbrev pub form_of : Bool → Form
@@ -84,6 +87,19 @@ DescribesPresented k _ text succeeds =
 abbrev pub TellsTable : Certificate → List ℕ → Bool → Type 0
 TellsTable c text succeeds = (text ≡ table_text c) × (succeeds ≡ true)
 
+-- the line that says why no presentation of a quotient was found
+abbrev pub unpresented_line : Unpresented → List ℕ
+unpresented_line search.Limit = codes "not presented within what the check takes\n"
+unpresented_line search.Refused = codes "not presented: the check refused what was found\n"
+unpresented_line _ = codes "not presented within the work that is allowed\n"
+
+-- The text is that of a right presentation of the same code and of the same heaps, and so of the same quotient; or it
+-- says that none was found, and nothing is claimed.
+pub data TellsPresentation (c : Certificate) (text : List ℕ) : Bool → Type 0 where
+  Presenting : (k : Kept) → SpellsPresented text k.said → IsRight k → k.said.code ≡ c.code
+      → k.said.heaps ≡ length c.phi → k.said.period ≡ c.period → TellsPresentation c text true
+  NotPresented : (why : Unpresented) → text ≡ unpresented_line why → TellsPresentation c text false
+
 -- What is said by a search of which only this is known, when it met a bound.
 module _ (Met : Meets) where
   -- what is said in place of a quotient is true of it: the bound was met, and of want of memory nothing is
@@ -111,8 +127,8 @@ module _ (Met : Meets) where
       (IsStructure c text × (succeeds ≡ true)) ⊎ (IsBoundLineBy c Basis text × (succeeds ≡ false))
 
   -- The text describes the quotient, or is its relations as one word or as an ideal, or its multiplication
-  -- table, or what belongs to its idempotents, or says that it isn't described. Beside relations that
-  -- `present` refuses there is a note, and else none.
+  -- table, or what belongs to its idempotents, or its presentation, or says that it isn't described. Beside
+  -- relations that `present` refuses there is a note, and else none.
   abbrev pub DescribesQuotientBy : Certificate → Form → Output → List ℕ → Bool → Option (List ℕ) → Type 0
   DescribesQuotientBy c form Description text succeeds note =
       DescribesInBy written.Plain form c text succeeds × (note ≡ None)
@@ -128,6 +144,8 @@ module _ (Met : Meets) where
       TellsTable c text succeeds × (note ≡ None)
   DescribesQuotientBy c form Structure text succeeds note =
       TellsStructureBy c text succeeds × (note ≡ None)
+  DescribesQuotientBy c form Presentation text succeeds note =
+      TellsPresentation c text succeeds × (note ≡ None)
   DescribesQuotientBy c form Relations text succeeds note =
       (IsRelationsText form c text note × (succeeds ≡ true))
       ⊎ (IsBoundLineBy c form text × (succeeds ≡ false) × (note ≡ None))

@@ -7,6 +7,7 @@ ghost use Rattle.infinite_descriptions.specs.Whole.{IsWholeText};
 ghost use Rattle.presented_descriptions.specs.Described.{presented_text_for};
 ghost use Rattle.requests.specs.declared.plans.Output.TheVariants.{Relations};
 
+use crate::presenting::presenting;
 use crate::searches::{Relating, Texts};
 use crate::structures::{structured, tabled};
 use allocation::Memory;
@@ -161,6 +162,7 @@ fn finite_noted<T: Texts>(
         Output::Gap => computed(by, alloc, certified, form, System::Gap),
         Output::GapTable => tabled(alloc, certified),
         Output::Structure => structured(by, alloc, certified),
+        Output::Presentation => presenting(alloc, certified),
     }
 }
 
@@ -181,13 +183,15 @@ fn whole_noted(alloc: Global, game: &WholeGame, output: Output) -> Result<Noted,
         Output::Description => whole_described(alloc, game, WholeOutput::Plain),
         Output::Latex => whole_described(alloc, game, WholeOutput::Latex),
         Output::Json => whole_described(alloc, game, WholeOutput::Json),
-        Output::Relations | Output::Singular | Output::Gap | Output::GapTable | Output::Structure =>
-            {
-                refuse(
-                    alloc,
-                    "a whole game is described in lines, for LaTeX or as JSON\n",
-                )
-            }
+        Output::Relations
+        | Output::Singular
+        | Output::Gap
+        | Output::GapTable
+        | Output::Structure
+        | Output::Presentation => refuse(
+            alloc,
+            "a whole game is described in lines, for LaTeX or as JSON\n",
+        ),
     }
 }
 
@@ -216,13 +220,15 @@ fn presentation_noted(
         Output::Description => presentation_described(alloc, quotient, WholeOutput::Plain),
         Output::Latex => presentation_described(alloc, quotient, WholeOutput::Latex),
         Output::Json => presentation_described(alloc, quotient, WholeOutput::Json),
-        Output::Relations | Output::Singular | Output::Gap | Output::GapTable | Output::Structure =>
-            {
-                refuse(
-                    alloc,
-                    "a presentation is described in lines, for LaTeX or as JSON\n",
-                )
-            }
+        Output::Relations
+        | Output::Singular
+        | Output::Gap
+        | Output::GapTable
+        | Output::Structure
+        | Output::Presentation => refuse(
+            alloc,
+            "a presentation is described in lines, for LaTeX or as JSON\n",
+        ),
     }
 }
 
@@ -249,8 +255,8 @@ fn noted<T: Texts>(
 /// described. A finite one is: by relations that present its monoid in this form, with its portion, orders,
 /// generators, standard invariants and the pretending function in words, plain, for LaTeX or in JSON;
 /// or by its relations alone, as one word for `present`, or as an ideal for Singular or GAP; or by its
-/// multiplication table, or what belongs to each of its idempotents. Or else why it gives none, or within
-/// which bound it is not described. The note names the bound of `present` that the one word's relations are
+/// multiplication table, or what belongs to each of its idempotents; or by the text of its presentation, which
+/// the check of presentations has accepted. Or else why it gives none, or within which bound it is not described. The note names the bound of `present` that the one word's relations are
 /// above. That of a whole game is described in lines, for LaTeX or as JSON: by the presentation of the
 /// monoid of triples, and the triples of its heaps. So is a presentation: by what it says.
 pub fn describe<'a, F: Folder, S: Source>(

@@ -2,6 +2,7 @@
 #![tactic(auto)]
 
 mod describing;
+mod presenting;
 mod searches;
 mod structures;
 

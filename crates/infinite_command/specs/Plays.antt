@@ -6,10 +6,10 @@ use Rattle.infinite_player.specs.Plays.{SpeaksOf}
 use Rattle.player.specs.Answers.{IsRightAnswer}
 use Rattle.player.specs.declared.answering.Answer.{Answer}
 use Rattle.play_command.specs.Lines.{answer_line, beyond_line}
-use Rattle.play_command.specs.Plays.{AnswersWhole}
+use Rattle.play_command.specs.Plays.{AnswersWhole, PlaysPresented}
 use Rattle.infinite_command.specs.Checks.{ChecksEither, Shows}
 use Rattle.infinite_command.specs.declared.checking.ShownText.{ShownText}
-use Rattle.infinite_command.specs.declared.checking.ShownText.TheVariants.{Tracked, Whole}
+use Rattle.infinite_command.specs.declared.checking.ShownText.TheVariants.{Tracked, Whole, Presented}
 
 -- the line of the right answer in the position, in the game of the quotient
 abbrev pub AnswersIn : Kept → List ℕ → List ℕ → Type 0
@@ -29,6 +29,7 @@ PlaysTracked k X text false = IsBeyond k X text
 abbrev pub PlaysIn : ShownText → List ℕ → List ℕ → Bool → Type 0
 PlaysIn (Tracked k) X text succeeds = PlaysTracked k X text succeeds
 PlaysIn (Whole c) X text succeeds = AnswersWhole c X text × (succeeds ≡ true)
+PlaysIn (Presented k) X text succeeds = PlaysPresented k X text succeeds
 
 -- the same if something was found, and the text of a no if nothing was
 abbrev pub PlaysFound : {A : Type 0} → Result ShownText (Vec ℕ A) → List ℕ → List ℕ → Bool → Type 0

@@ -6,9 +6,10 @@ use Rattle.infinite_descriptions.specs.Described.{IsDescription}
 use Rattle.infinite_descriptions.specs.declared.describing.Output.{Output}
 use Rattle.infinite_descriptions.specs.declared.describing.Output.TheVariants.{Plain, Latex, Json}
 use Rattle.infinite_descriptions.specs.Whole.{IsWholeText}
+use Rattle.presented_descriptions.specs.Described.{presented_text_for}
 use Rattle.infinite_command.specs.Checks.{ChecksEither, Shows}
 use Rattle.infinite_command.specs.declared.checking.ShownText.{ShownText}
-use Rattle.infinite_command.specs.declared.checking.ShownText.TheVariants.{Tracked, Whole}
+use Rattle.infinite_command.specs.declared.checking.ShownText.TheVariants.{Tracked, Whole, Presented}
 
 -- for whom the text is
 abbrev pub output_for : Layout → Output
@@ -20,6 +21,7 @@ output_for layout.Json = Json
 abbrev pub ShowsAs : Layout → ShownText → List ℕ → Type 0
 ShowsAs layout (Tracked k) text = IsDescription (output_for layout) k text
 ShowsAs layout (Whole c) text = IsWholeText (output_for layout) c text
+ShowsAs layout (Presented k) text = text ≡ presented_text_for (output_for layout) k
 
 -- the same of what was found, and else the text of a no
 abbrev pub ShowsFound : {A : Type 0} → Layout → Result ShownText (Vec ℕ A) → List ℕ → Bool → Type 0

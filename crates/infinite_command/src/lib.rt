@@ -1,5 +1,5 @@
-//! `infinite`: what is said of a certificate of an infinite quotient, or of a text of a whole game, and the
-//! answers in positions by either.
+//! `infinite`: what is said of a certificate of an infinite quotient, of a text of a whole game, or of a presentation,
+//! and the answers in positions by each.
 #![tactic(auto)]
 
 mod checking;

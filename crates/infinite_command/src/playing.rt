@@ -10,7 +10,7 @@ use command_results::{Said, Stop};
 use folders::Folder;
 use infinite_answers::Infinite;
 use infinite_player::{answer, fits};
-use play_command::{answer_text, beyond, position_of, whole_played};
+use play_command::{answer_text, beyond, position_of, presented_played, whole_played};
 use positions::Position;
 use std::alloc::{AllocError, Global};
 use streams::Source;
@@ -47,6 +47,7 @@ pub(crate) fn played(
     match found {
         ShownText::Tracked(shown) => tracked_played(alloc, shown, position),
         ShownText::Whole(game) => whole_played(alloc, game, position),
+        ShownText::Presented(quotient) => presented_played(alloc, quotient, position),
     }
 }
 
@@ -67,7 +68,8 @@ fn said_in(
 /// Answers in the position by the infinite quotient that the file, or standard input where no file is
 /// named, shows under the limit: with the first winning move, that each move loses, or that there is
 /// none; or says that the certificate doesn't speak of the position, or why there is no quotient. A text
-/// of a whole game speaks of every position. The position is read first.
+/// of a whole game speaks of every position, and a presentation of those whose heaps have words. The position is read
+/// first.
 pub fn play_infinite<'a, F: Folder, S: Source>(
     alloc: Global,
     file: Option<&'a str>,

@@ -4,6 +4,7 @@ ghost use Rattle.check_command.specs.Checks.{AreGiven, IsGivenCause, failed};
 ghost use Rattle.infinite_descriptions.specs.Described.{IsDescription};
 ghost use Rattle.infinite_descriptions.specs.Whole.{IsWholeText};
 ghost use Rattle.infinite_command.specs.Shown.{ShowsFound, ShowsInfinite, output_for};
+ghost use Rattle.presented_descriptions.specs.Described.{presented_text_for};
 
 use crate::checking::{ShownText, found};
 use allocation::Memory;
@@ -11,6 +12,8 @@ use command_results::{Said, Stop};
 use folders::Folder;
 use infinite_answers::Infinite;
 use infinite_descriptions::{Output, described, whole_text};
+use presented_checker::PresentedQuotient;
+use presented_descriptions::presented_text;
 use requests::Layout;
 use std::alloc::Global;
 use streams::Source;
@@ -47,6 +50,19 @@ fn game_said(alloc: Global, game: &WholeGame, layout: Layout) -> Result<Said, Me
     Ok(Said::done(whole_text(alloc, game, output_for(layout))?))
 }
 
+/// What is said of a presentation.
+fn presentation_said(
+    alloc: Global,
+    quotient: &PresentedQuotient,
+    layout: Layout,
+) -> Result<Said, Memory>
+    ensures text { IfOk result
+        (λ s. s.text.items ≡ presented_text_for (output_for layout) quotient.now) }
+    ensures succeeds { IfOk result (λ s. s.succeeds ≡ true) }
+{
+    Ok(Said::done(presented_text(alloc, quotient, output_for(layout))?))
+}
+
 /// What is said of what was found.
 fn said_of(alloc: Global, found: Result<ShownText, Vec<u8>>, layout: Layout) -> Result<Said, Memory>
     ensures { IfOk result (λ s. ShowsFound layout found s.text.items s.succeeds) }
@@ -54,13 +70,14 @@ fn said_of(alloc: Global, found: Result<ShownText, Vec<u8>>, layout: Layout) -> 
     match found {
         Ok(ShownText::Tracked(shown)) => quotient_said(alloc, &shown, layout),
         Ok(ShownText::Whole(game)) => game_said(alloc, &game, layout),
+        Ok(ShownText::Presented(quotient)) => presentation_said(alloc, &quotient, layout),
         Err(no) => Ok(Said::no(no)),
     }
 }
 
 /// The infinite quotient that the file, or standard input where no file is named, shows under the
-/// limit, or the whole game: all that its text says, in lines, for LaTeX or as JSON. Or else why it shows
-/// none.
+/// limit, or the whole game, or the presentation: all that its text says, in lines, for LaTeX or as JSON. Or else why it
+/// shows none.
 pub fn show_infinite<'a, F: Folder, S: Source>(
     alloc: Global,
     file: Option<&'a str>,

@@ -1,5 +1,5 @@
 -- What a search for a text of an infinite quotient tells. This project's own.
-use Rattle.std.specs.Prelude.{◌≡◌, ◌⊎◌, ℕ, ◌≤◌, Bool, false, List}
+use Rattle.std.specs.Prelude.{◌≡◌, ◌⊎◌, ℕ, ◌≤◌, Bool, true, false, List}
 use Rattle.misere_theory.specs.declared.TheConstants.{LARGEST_PART, LARGEST_ORDER}
 use Rattle.requests.specs.declared.plans.PartsBounds.{PartsBounds}
 use Rattle.requests.specs.declared.ranges.TheConstants.{LARGEST_LIMIT, LEAST_ORDER}
@@ -20,6 +20,10 @@ AreInRange b = ((1 ≤ b.limit) × (b.limit ≤ LARGEST_LIMIT))
 -- succeeds, a right text of the whole game or with tracks, and else the line that says why there is none.
 abbrev pub IsToldOf : List ℕ → PartsBounds → List ℕ → Bool → Type 0
 IsToldOf code b text succeeds = AreInRange b × IsFound code b false text succeeds
+
+-- The same with `--presented`: if it succeeds, a right presentation.
+abbrev pub IsPresentedOf : List ℕ → PartsBounds → List ℕ → Bool → Type 0
+IsPresentedOf code b text succeeds = AreInRange b × IsFound code b true text succeeds
 
 -- Why nothing is told: a number is out of its range; or all are in theirs, and the text is no code's; or it is
 -- one, and memory was refused.

@@ -1,25 +1,26 @@
-//! The calls on infinite quotients.
+//! The calls on infinite quotients and on presentations.
 ghost use Rattle.std.specs.List.Sorted.{IsNonDecreasing};
 ghost use Rattle.std.specs.Prelude.{◌≡◌, ◌≢◌, ◌≤◌, ◌<◌, ℕ, Bool, List, true, false, IsPermutation, length, take};
 ghost use Rattle.std.specs.declared.option.Option.TheVariants.{None, Some};
-ghost use Rattle.infinite_library.specs.Found.{IsToldOf, IsUntold, parts};
+ghost use Rattle.infinite_library.specs.Found.{IsPresentedOf, IsToldOf, IsUntold, parts};
 ghost use Rattle.infinite_queries.specs.Asked.{AreNoAnswers, AreRefused, AreShown, FailsAt, IsNoAnswer, IsNoAnswerToMany, TellsAnswer, TellsOutcome};
 ghost use Rattle.infinite_texts.specs.Described.{IsOpenedCode, IsOpenedText, IsOpenedUntold};
-ghost use Rattle.opened_infinite.specs.Texts.{kind_of};
+ghost use Rattle.infinite_texts.specs.Valued.{IsOpenedUnvalued, IsOpenedValue};
+ghost use Rattle.opened_infinite.specs.Texts.{kind_of, order_of};
 ghost use Rattle.told_answers.specs.Asked.{IsOpened, IsUnopened, IsUnshared};
 ghost use Rattle.told_answers.specs.Many.{TellAll};
 
-use crate::solving::solve;
+use crate::solving::{solve, solve_presented};
 use infinite_queries::{
-    answer, answers, check, close, failure, kind, open, outcome, outcomes, share,
+    answer, answers, check, close, failure, kind, open, order, outcome, outcomes, share,
 };
-use infinite_texts::{code, describe};
+use infinite_texts::{code, describe, value};
 use opened_infinite::OpenedInfinite;
 use std::alloc::Global;
 use told_answers::MisereAnswer;
 
-/// Whether the bytes are an accepted text of an infinite quotient, with tracks or of a whole game: 0, or the
-/// number of the refusal.
+/// Whether the bytes are an accepted text of an infinite quotient, with tracks or of a whole game, or an accepted
+/// presentation, whose quotient may be finite: 0, or the number of the refusal.
 #[unsafe(no_mangle)]
 pub extern "C" fn misere_check_infinite(alloc: Global, bytes: &[u8], limit: u32) -> u32
     ensures yes { result ≡ 0 → AreShown bytes.now (λ k. Unit {0}) }
@@ -49,8 +50,8 @@ pub extern "C" fn misere_infinite_failure(
     failure(alloc, bytes, limit, told, count)
 }
 
-/// Opens the infinite quotient that the bytes show, in place of what was opened there: 0, or the number
-/// of the refusal. The bytes aren't needed any more.
+/// Opens the quotient that the bytes show, in place of what was opened there: 0, or the number of the refusal. The bytes
+/// aren't needed any more.
 #[unsafe(no_mangle)]
 pub extern "C" fn misere_infinite_open(
     alloc: Global,
@@ -104,6 +105,21 @@ pub extern "C" fn misere_infinite_kind(
     ensures stays { result ≢ 0 → told.new ≡ told.old }
 {
     kind(alloc, opened, told)
+}
+
+/// Tells how many elements the quotient has, or 0 where it is infinite.
+#[unsafe(no_mangle)]
+pub extern "C" fn misere_infinite_order(
+    alloc: Global,
+    opened: &mut OpenedInfinite,
+    told: &mut u64,
+) -> u32
+    ensures yes { result ≡ 0 → IsOpened opened.old.handle.value (λ s. told.new ≡ order_of s) }
+    ensures no { result ≢ 0 → IsUnopened opened.old.handle.value result }
+    ensures same { opened.new.handle.value ≡ opened.old.handle.value }
+    ensures stays { result ≢ 0 → told.new ≡ told.old }
+{
+    order(alloc, opened, told)
 }
 
 /// Tells the code of what is opened, such as 0.26, and how many bytes it has; where there is no room for them,
@@ -225,6 +241,30 @@ pub extern "C" fn misere_infinite_describe(
     describe(alloc, opened, output, told, count)
 }
 
+/// Tells the element of the position of the heaps by a presentation that is opened: the normal form of its word, such as
+/// ab^2, or 1. Tells how many bytes it has, too; where there is no room for them, how many they are alone.
+#[unsafe(no_mangle)]
+pub extern "C" fn misere_infinite_value(
+    alloc: Global,
+    opened: &mut OpenedInfinite,
+    heaps: &[u64],
+    told: &mut [u8],
+    count: &mut u64,
+) -> u32
+    ensures yes { result ≡ 0
+        → IsOpenedValue opened.old.handle.value heaps.now (take count.new told.new) }
+    ensures no { result ≢ 0 → result ≢ 14
+        → IsOpenedUnvalued opened.old.handle.value heaps.now result }
+    ensures same { opened.new.handle.value ≡ opened.old.handle.value }
+    ensures stays { result ≢ 0 → told.new ≡ told.old }
+    ensures room { result ≡ 14 → length told.old < count.new }
+    ensures counts { result ≡ 14 → (text : List ℕ)
+        × IsOpenedValue opened.old.handle.value heaps.now text × (count.new ≡ length text) }
+    ensures untold { result ≢ 0 → result ≢ 14 → count.new ≡ count.old }
+{
+    value(alloc, opened, heaps, told, count)
+}
+
 /// Looks for a text of an infinite quotient of a code: of its whole game, or else with tracks of the heaps 1 to
 /// at most `heaps`, from 1 to 1024, of an order from 2 to 4096. Tells the text, which `misere_infinite_open`
 /// opens, and how many bytes it has; of a search that was given up the line that says how, which needs
@@ -252,4 +292,32 @@ pub extern "C" fn misere_solve_infinite(
     ensures untold { result ≢ 0 → result ≢ 13 → result ≢ 14 → count.new ≡ count.old }
 {
     solve(alloc, code, limit, heaps, order, told, count)
+}
+
+/// Looks for a presentation of an infinite quotient of a code, of the heaps 1 to at most `heaps`, from 1 to 1024. It is made
+/// of a certificate with tracks, which has at most `order` elements, from 2 to 4096. Tells the text, which
+/// `misere_infinite_open` opens, as `misere_solve_infinite` does.
+#[unsafe(no_mangle)]
+pub extern "C" fn misere_solve_presented(
+    alloc: Global,
+    code: &[u8],
+    limit: u32,
+    heaps: u32,
+    order: u32,
+    told: &mut [u8],
+    count: &mut u64,
+) -> u32
+    ensures found { result ≡ 0
+        → IsPresentedOf code.now (parts limit heaps order) (take count.new told.new) true }
+    ensures given_up { result ≡ 13
+        → IsPresentedOf code.now (parts limit heaps order) (take count.new told.new) false }
+    ensures no { result ≢ 0 → result ≢ 13 → result ≢ 14
+        → IsUntold code.now (parts limit heaps order) result }
+    ensures stays { result ≢ 0 → result ≢ 13 → told.new ≡ told.old }
+    ensures room { result ≡ 14 → length told.old < count.new }
+    ensures counts { result ≡ 14 → (text : List ℕ) × (succeeds : Bool)
+        × IsPresentedOf code.now (parts limit heaps order) text succeeds × (count.new ≡ length text) }
+    ensures untold { result ≢ 0 → result ≢ 13 → result ≢ 14 → count.new ≡ count.old }
+{
+    solve_presented(alloc, code, limit, heaps, order, told, count)
 }

@@ -1,6 +1,7 @@
 //! The search for a text of an infinite quotient.
 ghost use Rattle.std.specs.Prelude.{◌≡◌, ◌≢◌, ◌↔◌, ◌<◌, ℕ, Bool, List, true, false, IfOk, IfErr, IsTrue, length, take};
-ghost use Rattle.infinite_library.specs.Found.{AreInRange, IsToldOf, IsUntold, parts};
+ghost use Rattle.infinite_library.specs.Found.{AreInRange, IsPresentedOf, IsToldOf, IsUntold, parts};
+ghost use Rattle.solve_infinite_command.specs.Asked.{IsFound};
 
 use command_results::{Said, Stop};
 use infinite_texts::hand_over;
@@ -26,22 +27,17 @@ fn are_in_range(bounds: PartsBounds) -> bool
     is_limit && are_heaps && is_order
 }
 
-/// What is said of the code that the bytes spell; or the status.
-fn said_of(alloc: Global, code: &[u8], limit: u32, heaps: u32, order: u32) -> Result<Said, u32>
+/// What is said of the code that the bytes spell, if its quotient is to be presented or not; or the status.
+fn said_of(alloc: Global, code: &[u8], bounds: PartsBounds, is_presented: bool) -> Result<Said, u32>
     ensures told { IfOk result
-        (λ s. IsToldOf code.now (parts limit heaps order) s.text.items s.succeeds) }
+        (λ s. AreInRange bounds × IsFound code.now bounds is_presented s.text.items s.succeeds) }
     ensures no { IfErr result (λ s. s ≢ 0 × s ≢ 13 × s ≢ 14) }
-    ensures why { IfErr result (IsUntold code.now (parts limit heaps order)) }
+    ensures why { IfErr result (IsUntold code.now bounds) }
 {
-    let bounds = PartsBounds {
-        limit,
-        order,
-        heaps,
-    };
     if !are_in_range(bounds) {
         return Err(NOT_IN_RANGE);
     }
-    match solve_infinite_bytes(alloc, code, bounds, false) {
+    match solve_infinite_bytes(alloc, code, bounds, is_presented) {
         Ok(said) => Ok(said),
         Err(Stop::NotACode) => Err(NOT_A_CODE),
         Err(_) => Err(MEMORY),
@@ -89,7 +85,46 @@ pub(crate) fn solve(
         × IsToldOf code.now (parts limit heaps order) text succeeds × (count.new ≡ length text) }
     ensures untold { result ≢ 0 → result ≢ 13 → result ≢ 14 → count.new ≡ count.old }
 {
-    match said_of(alloc, code, limit, heaps, order) {
+    let bounds = PartsBounds {
+        limit,
+        order,
+        heaps,
+    };
+    match said_of(alloc, code, bounds, false) {
+        Ok(said) => handed(&said, told, count),
+        Err(status) => status,
+    }
+}
+
+/// Looks for a presentation of an infinite quotient of the code, as `misere solve CODE --infinite --presented` does. Tells
+/// the text as [`solve`] does.
+pub(crate) fn solve_presented(
+    alloc: Global,
+    code: &[u8],
+    limit: u32,
+    heaps: u32,
+    order: u32,
+    told: &mut [u8],
+    count: &mut u64,
+) -> u32
+    ensures found { result ≡ 0
+        → IsPresentedOf code.now (parts limit heaps order) (take count.new told.new) true }
+    ensures given_up { result ≡ 13
+        → IsPresentedOf code.now (parts limit heaps order) (take count.new told.new) false }
+    ensures no { result ≢ 0 → result ≢ 13 → result ≢ 14
+        → IsUntold code.now (parts limit heaps order) result }
+    ensures stays { result ≢ 0 → result ≢ 13 → told.new ≡ told.old }
+    ensures room { result ≡ 14 → length told.old < count.new }
+    ensures counts { result ≡ 14 → (text : List ℕ) × (succeeds : Bool)
+        × IsPresentedOf code.now (parts limit heaps order) text succeeds × (count.new ≡ length text) }
+    ensures untold { result ≢ 0 → result ≢ 13 → result ≢ 14 → count.new ≡ count.old }
+{
+    let bounds = PartsBounds {
+        limit,
+        order,
+        heaps,
+    };
+    match said_of(alloc, code, bounds, true) {
         Ok(said) => handed(&said, told, count),
         Err(status) => status,
     }

@@ -1,5 +1,5 @@
--- What is told of bytes that show an infinite quotient, and of positions by one that is opened. This
--- project's own.
+-- What is told of bytes that show an infinite quotient, or are a presentation, and of positions by one that is
+-- opened. This project's own.
 use Rattle.std.specs.Prelude.{◌≡◌, ◌⊎◌, ◌++◌, ◌-◌, ℕ, List, All, IsPermutation, codes}
 use Rattle.std.specs.List.Sorted.{IsNonDecreasing}
 use Rattle.std.specs.declared.option.Option.{Option}
@@ -9,13 +9,16 @@ use Rattle.tracked_claims.specs.Reads.{claim_in}
 use Rattle.tracked_text.specs.Said.{Said}
 use Rattle.tracked_text.specs.Spelling.{Spells}
 use Rattle.dominance_text.specs.Spelling.{SpellsDominance}
-use Rattle.infinite_answers.specs.Answers.{Why, IsTrueOf, Text, Undecided, Outcome as Fails}
+use Rattle.infinite_answers.specs.Answers.{Why, IsTrueOf, Text, Outcome as Fails}
 use Rattle.infinite_answers.specs.Kept.{IsKeptOf}
 use Rattle.infinite_answers.specs.Shown.{IsShown}
 use Rattle.whole_checker.specs.Solved.{IsRefutedWhole, IsSolved}
+use Rattle.presented_text.specs.Spelling.{SpellsPresented}
+use Rattle.presented_tables.specs.Tested.{HasWord}
+use Rattle.presented_checker.specs.Refused.{IsRight, IsTrueOfBytes}
 use Rattle.opened_infinite.specs.Texts.{code_of}
 use Rattle.opened_infinite.specs.declared.text.AcceptedText.{AcceptedText}
-use Rattle.opened_infinite.specs.declared.text.AcceptedText.TheVariants.{Tracks, Whole}
+use Rattle.opened_infinite.specs.declared.text.AcceptedText.TheVariants.{Tracks, Whole, Presented}
 use Rattle.positions.specs.Positions.{IsSize}
 use Rattle.positions.specs.Outcomes.{HasOutcome}
 use Rattle.positions.specs.declared.outcome.Outcome.{Outcome}
@@ -32,6 +35,7 @@ use Rattle.infinite_queries.specs.Numbers.{status_of}
 abbrev pub IsShownBy : List ℕ → AcceptedText → Type 0
 IsShownBy bytes (Tracks k) = (c : Said) × Spells bytes c × IsKeptOf k c × IsShown c
 IsShownBy bytes (Whole c) = SpellsDominance bytes c × IsSolved c
+IsShownBy bytes (Presented k) = SpellsPresented bytes k.said × IsRight k
 
 -- The bytes spell a text that is right, and the rest is true of what is kept of it.
 abbrev pub AreShown : List ℕ → (AcceptedText → Type 0) → Type 0
@@ -41,39 +45,44 @@ AreShown bytes says = (s : AcceptedText) × IsShownBy bytes s × says s
 abbrev pub BeginsWhole : List ℕ → Type 0
 BeginsWhole bytes = (rest : List ℕ) × (bytes ≡ codes "mqw " ++ rest)
 
--- The refusal is true of the bytes. With Text they spell no text of either kind. With Undecided they spell one
--- of one of them, and with a position what they spell breaks the rule there. Every other one is of a certificate
--- with tracks.
-abbrev pub IsTrueOfEither : List ℕ → Why → Type 0
-IsTrueOfEither bytes Text = IsTrueOf bytes Text × IsRefutedWhole bytes Text
-IsTrueOfEither bytes Undecided = IsTrueOf bytes Undecided ⊎ IsRefutedWhole bytes Undecided
-IsTrueOfEither bytes (Fails code X) = IsTrueOf bytes (Fails code X) ⊎ IsRefutedWhole bytes (Fails code X)
-IsTrueOfEither bytes why = IsTrueOf bytes why
+-- The bytes begin with the first word of presentations.
+abbrev pub BeginsPresented : List ℕ → Type 0
+BeginsPresented bytes = (rest : List ℕ) × (bytes ≡ codes "mqp " ++ rest)
+
+-- The refusal is true of the bytes. With Text they spell no text of any of the three kinds. Every other one is true of
+-- what they spell: of a certificate with tracks, of a text of a whole game, or of a presentation.
+abbrev pub IsTrueOfKinds : List ℕ → Why → Type 0
+IsTrueOfKinds bytes Text = IsTrueOf bytes Text × IsRefutedWhole bytes Text × IsTrueOfBytes bytes Text
+IsTrueOfKinds bytes why = IsTrueOf bytes why ⊎ (IsRefutedWhole bytes why ⊎ IsTrueOfBytes bytes why)
 
 -- The status is the number of a refusal that is true of the bytes.
 abbrev pub AreRefused : List ℕ → ℕ → Type 0
-AreRefused bytes status = (why : Why) × (status ≡ status_of why) × IsTrueOfEither bytes why
+AreRefused bytes status = (why : Why) × (status ≡ status_of why) × IsTrueOfKinds bytes why
 
 -- the bytes are refused, truly, since the rule of their code's game fails at this position
 abbrev pub FailsAt : List ℕ → List ℕ → Type 0
-FailsAt bytes X = (code : List ℕ) × IsTrueOfEither bytes (Fails code X)
+FailsAt bytes X = (code : List ℕ) × IsTrueOfKinds bytes (Fails code X)
 
 -- ---- positions
 
--- The text speaks of the heap: of each if it is of a whole game.
+-- The text speaks of the heap: of each if it is a text of a whole game, and of one that has a word if it is a
+-- presentation.
 abbrev pub IsSpokenOf : AcceptedText → ℕ → Type 0
 IsSpokenOf (Tracks k) = SpeaksOfHeap (claim_in k.claim)
 IsSpokenOf (Whole c) = IsHeap
+IsSpokenOf (Presented k) = HasWord k.said
 
 -- The text speaks of each heap of the position.
 abbrev pub SpeaksOf : AcceptedText → List ℕ → Type 0
 SpeaksOf s X = IsPosition (IsSpokenOf s) X
 
 -- The right answer in the position. A move is the first one that wins; by a text of a whole game the first of
--- those that leave at most one heap from start on.
+-- those that leave at most one heap from start on, and by a presentation of those whose parts but the largest are heaps
+-- of its list.
 abbrev pub IsAnswerIn : AcceptedText → List ℕ → Answer → Type 0
 IsAnswerIn (Tracks k) X a = IsRightAnswer k.claim.code X a
 IsAnswerIn (Whole c) X a = IsTriedAnswer c.code (λ _. c.start - 1) X a
+IsAnswerIn (Presented k) X a = IsTriedAnswer k.said.code (λ _. k.said.heaps) X a
 
 -- the number of the outcome of the position of these heaps, of which the text speaks
 abbrev pub TellsOutcome : List ℕ → ℕ → AcceptedText → Type 0

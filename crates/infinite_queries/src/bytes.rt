@@ -2,12 +2,13 @@
 ghost use Rattle.std.specs.Prelude.{◌≡◌, ◌≢◌, ◌≤◌, ◌<◌, ◌↔◌, IfOk, IfErr, IsTrue, ℕ, List, length, take};
 ghost use Rattle.infinite_answers.specs.Refusals.{refused};
 ghost use Rattle.infinite_queries.specs.Numbers.{status_of};
-ghost use Rattle.infinite_queries.specs.Asked.{AreRefused, AreShown, BeginsWhole, FailsAt, IsShownBy, IsTrueOfEither};
+ghost use Rattle.infinite_queries.specs.Asked.{AreRefused, AreShown, BeginsPresented, BeginsWhole, FailsAt, IsShownBy, IsTrueOfKinds};
 
 use infinite_answers::InfiniteRefusal;
 use infinite_checker::check_infinite;
 use opened_infinite::AcceptedText;
 use positions::Position;
+use presented_checker::check_presented;
 use std::alloc::Global;
 use told_answers::{DONE, OUTCOME, put};
 use whole_checker::judge_whole;
@@ -27,11 +28,18 @@ fn begins_whole(bytes: &[u8]) -> bool
     bytes.starts_with(b"mqw ")
 }
 
-/// What bytes that do are accepted as, or why they are refused.
+/// Whether the bytes begin as presentations do.
+fn begins_presented(bytes: &[u8]) -> bool
+    ensures { IsTrue result ↔ BeginsPresented bytes.now }
+{
+    bytes.starts_with(b"mqp ")
+}
+
+/// What bytes that begin as texts of whole games are accepted as, or why they are refused.
 fn whole(alloc: Global, bytes: &[u8]) -> Result<AcceptedText, InfiniteRefusal>
     requires { BeginsWhole bytes.now }
     ensures yes { IfOk result (IsShownBy bytes.now) }
-    ensures no { IfErr result (λ r. IsTrueOfEither bytes.now (refused r)) }
+    ensures no { IfErr result (λ r. IsTrueOfKinds bytes.now (refused r)) }
 {
     match judge_whole(alloc, bytes) {
         Ok(game) => Ok(AcceptedText::Whole(game)),
@@ -39,11 +47,24 @@ fn whole(alloc: Global, bytes: &[u8]) -> Result<AcceptedText, InfiniteRefusal>
     }
 }
 
-/// What bytes that don't are accepted as, or why they are refused.
-fn tracks(alloc: Global, bytes: &[u8], limit: u32) -> Result<AcceptedText, InfiniteRefusal>
-    requires { BeginsWhole bytes.now → ⊥ }
+/// What bytes that begin as presentations are accepted as, or why they are refused.
+fn presented(alloc: Global, bytes: &[u8]) -> Result<AcceptedText, InfiniteRefusal>
+    requires { BeginsPresented bytes.now }
     ensures yes { IfOk result (IsShownBy bytes.now) }
-    ensures no { IfErr result (λ r. IsTrueOfEither bytes.now (refused r)) }
+    ensures no { IfErr result (λ r. IsTrueOfKinds bytes.now (refused r)) }
+{
+    match check_presented(alloc, bytes) {
+        Ok(quotient) => Ok(AcceptedText::Presented(quotient)),
+        Err(refusal) => Err(refusal),
+    }
+}
+
+/// What all other bytes are accepted as, or why they are refused.
+fn tracks(alloc: Global, bytes: &[u8], limit: u32) -> Result<AcceptedText, InfiniteRefusal>
+    requires whole { BeginsWhole bytes.now → ⊥ }
+    requires presented { BeginsPresented bytes.now → ⊥ }
+    ensures yes { IfOk result (IsShownBy bytes.now) }
+    ensures no { IfErr result (λ r. IsTrueOfKinds bytes.now (refused r)) }
 {
     match check_infinite(alloc, bytes, limit) {
         Ok(shown) => Ok(AcceptedText::Tracks(shown)),
@@ -54,10 +75,12 @@ fn tracks(alloc: Global, bytes: &[u8], limit: u32) -> Result<AcceptedText, Infin
 /// What the bytes are accepted as, or why they are refused.
 fn accepted(alloc: Global, bytes: &[u8], limit: u32) -> Result<AcceptedText, InfiniteRefusal>
     ensures yes { IfOk result (IsShownBy bytes.now) }
-    ensures no { IfErr result (λ r. IsTrueOfEither bytes.now (refused r)) }
+    ensures no { IfErr result (λ r. IsTrueOfKinds bytes.now (refused r)) }
 {
     if begins_whole(bytes) {
         whole(alloc, bytes)
+    } else if begins_presented(bytes) {
+        presented(alloc, bytes)
     } else {
         tracks(alloc, bytes, limit)
     }
@@ -74,7 +97,8 @@ pub(crate) fn shown(alloc: Global, bytes: &[u8], limit: u32) -> Result<AcceptedT
     }
 }
 
-/// Whether the bytes are an accepted text of an infinite quotient: 0, or the number of the refusal.
+/// Whether the bytes are an accepted text of an infinite quotient or an accepted presentation: 0, or the number of the
+/// refusal.
 pub fn check(alloc: Global, bytes: &[u8], limit: u32) -> u32
     ensures yes { result ≡ 0 → AreShown bytes.now (λ k. Unit {0}) }
     ensures no { result ≢ 0 → AreRefused bytes.now result }

@@ -1,7 +1,7 @@
 //! What is asked of an accepted text, of whichever kind it is.
 ghost use Rattle.std.specs.Prelude.{◌≡◌, ◌↔◌, All, IsTrue};
 ghost use Rattle.std.specs.List.Sorted.{IsNonDecreasing};
-ghost use Rattle.opened_infinite.specs.Texts.{code_of, kind_of};
+ghost use Rattle.opened_infinite.specs.Texts.{code_of, kind_of, last_of, number_or_none, order_of};
 ghost use Rattle.positions.specs.Outcomes.{HasOutcome};
 ghost use Rattle.positions.specs.Positions.{IsSize};
 ghost use Rattle.infinite_queries.specs.Asked.{IsAnswerIn, SpeaksOf};
@@ -10,6 +10,8 @@ use infinite_player::{answer_at, outcome_at, speaks_of, whole_answer_at, whole_o
 use opened_infinite::AcceptedText;
 use player::Answer;
 use positions::Outcome;
+use presented_checker::PresentedQuotient;
+use presented_player::{presented_answer_at, presented_outcome_at, speaks_of as has_words};
 
 /// Whether the text speaks of each of these heaps, which stand in any order.
 pub(crate) fn speaks(shown: &AcceptedText, heaps: &[u64]) -> bool
@@ -19,6 +21,7 @@ pub(crate) fn speaks(shown: &AcceptedText, heaps: &[u64]) -> bool
     match shown {
         AcceptedText::Tracks(tracks) => speaks_of(tracks, heaps),
         AcceptedText::Whole(_) => true,
+        AcceptedText::Presented(quotient) => has_words(quotient, heaps),
     }
 }
 
@@ -30,6 +33,7 @@ pub(crate) fn winner(shown: &AcceptedText, heaps: &[u64]) -> Outcome
     match shown {
         AcceptedText::Tracks(tracks) => outcome_at(tracks, heaps),
         AcceptedText::Whole(game) => whole_outcome_at(game, heaps),
+        AcceptedText::Presented(quotient) => presented_outcome_at(quotient, heaps),
     }
 }
 
@@ -42,6 +46,28 @@ pub(crate) fn rising_answer(shown: &AcceptedText, heaps: &[u64]) -> Answer
     match shown {
         AcceptedText::Tracks(tracks) => answer_at(tracks, heaps),
         AcceptedText::Whole(game) => whole_answer_at(game, heaps),
+        AcceptedText::Presented(quotient) => presented_answer_at(quotient, heaps),
+    }
+}
+
+/// 0 for none, and else the number.
+fn number_of(order: Option<usize>) -> u64
+    ensures { result ≡ number_or_none order }
+{
+    match order {
+        Some(order) => order as u64,
+        None => 0,
+    }
+}
+
+/// 0 if the presentation is of the whole game, and else how far its heaps go.
+fn last_of(quotient: &PresentedQuotient) -> u64
+    ensures { result ≡ last_of quotient.now.said }
+{
+    if quotient.period() == 0 {
+        quotient.heaps() as u64
+    } else {
+        0
     }
 }
 
@@ -52,5 +78,16 @@ pub(crate) fn kind_of(shown: &AcceptedText) -> u64
     match shown {
         AcceptedText::Tracks(tracks) => tracks.last() as u64,
         AcceptedText::Whole(_) => 0,
+        AcceptedText::Presented(quotient) => last_of(quotient),
     }
+}
+
+/// 0 if the quotient is infinite, and else how many elements it has.
+pub(crate) fn order_of(shown: &AcceptedText) -> u64
+    ensures { result ≡ order_of shown.now }
+{
+    let AcceptedText::Presented(quotient) = shown else {
+        return 0;
+    };
+    number_of(quotient.order())
 }

@@ -1,5 +1,6 @@
-//! What is asked of an infinite quotient, in numbers, as it is asked from C: by the bytes of its
-//! text, with tracks or of a whole game, or once these were opened. The static library `infinite_library` hands it out.
+//! What is asked of an infinite quotient, or of one that generators and relations present, in numbers, as it is asked from
+//! C: by the bytes of its text, with tracks, of a whole game or a presentation, or once these were opened. The static
+//! library `infinite_library` hands it out.
 //!
 //! What is opened was checked once, and keeps the checker's theorem. The caller owns all other memory.
 #![tactic(auto)]
@@ -13,4 +14,4 @@ mod queries;
 
 pub use bytes::{check, failure};
 pub use opening::{close, open, share};
-pub use queries::{answer, answers, kind, outcome, outcomes};
+pub use queries::{answer, answers, kind, order, outcome, outcomes};

@@ -30,8 +30,8 @@ fn owner(alloc: Global, bytes: &[u8], limit: u32) -> Result<Box<InfiniteQuotient
     }
 }
 
-/// Opens the infinite quotient that the bytes show, in place of what was opened there: 0, or the number
-/// of the refusal. The bytes aren't needed any more.
+/// Opens the quotient that the bytes show, in place of what was opened there: 0, or the number of the refusal. The bytes
+/// aren't needed any more.
 pub fn open(alloc: Global, bytes: &[u8], limit: u32, told: &mut OpenedInfinite) -> u32
     ensures yes { result ≡ 0 → AreShown bytes.now (λ k. told.new.handle.value ≡ Some k) }
     ensures no { result ≢ 0 → AreRefused bytes.now result }

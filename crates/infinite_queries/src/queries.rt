@@ -2,12 +2,12 @@
 ghost use Rattle.std.specs.List.Sorted.{IsNonDecreasing};
 ghost use Rattle.std.specs.Prelude.{◌≡◌, ◌≢◌, IfOk, IfErr, OnOk, OnErr, IsPermutation, length};
 ghost use Rattle.infinite_queries.specs.Asked.{AreNoAnswers, IsNoAnswer, IsNoAnswerToMany, TellsAnswer, TellsOutcome};
-ghost use Rattle.opened_infinite.specs.Texts.{kind_of};
+ghost use Rattle.opened_infinite.specs.Texts.{kind_of, order_of};
 ghost use Rattle.told_answers.specs.Asked.{IsOpened, IsUnopened};
 ghost use Rattle.told_answers.specs.Many.{TellAll};
 
 use crate::asking::{answer_in, outcome_in};
-use crate::kinds::kind_of;
+use crate::kinds::{kind_of, order_of};
 use crate::many::{answers_in, outcomes_in};
 use opened_infinite::OpenedInfinite;
 use std::alloc::Global;
@@ -25,6 +25,21 @@ pub fn kind(alloc: Global, opened: &mut OpenedInfinite, told: &mut u64) -> u32
         return NOT_OPEN;
     };
     *told = kind_of(quotient.shown());
+    opened.put(alloc, quotient);
+    DONE
+}
+
+/// Tells how many elements the quotient has, or 0 where it is infinite.
+pub fn order(alloc: Global, opened: &mut OpenedInfinite, told: &mut u64) -> u32
+    ensures yes { result ≡ 0 → IsOpened opened.old.handle.value (λ s. told.new ≡ order_of s) }
+    ensures no { result ≢ 0 → IsUnopened opened.old.handle.value result }
+    ensures same { opened.new.handle.value ≡ opened.old.handle.value }
+    ensures stays { result ≢ 0 → told.new ≡ told.old }
+{
+    let Some(quotient) = opened.take(alloc) else {
+        return NOT_OPEN;
+    };
+    *told = order_of(quotient.shown());
     opened.put(alloc, quotient);
     DONE
 }

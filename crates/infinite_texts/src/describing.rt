@@ -1,19 +1,24 @@
-//! The description of an infinite quotient that was opened, and its code.
+//! The description of an infinite quotient or a presentation that was opened, and its code.
 ghost use Rattle.std.specs.Prelude.{◌≡◌, ◌≢◌, ◌<◌, ◌≤◌, ◌⊎◌, ℕ, List, None, IfSome, IfOk, IfErr, length, take};
 ghost use Rattle.std.specs.String.{string_bytes};
-ghost use Rattle.infinite_texts.specs.Described.{IsOpenedCode, IsOpenedText, IsOpenedUntold, IsOutput, IsTextFor, IsUntoldOf};
+ghost use Rattle.infinite_texts.specs.Described.{IsOpenedCode, IsOpenedText, IsOpenedUntold, IsOutput, IsTextBy, IsTextFor, IsUndescribed, IsUntoldOf};
+ghost use Rattle.infinite_descriptions.specs.Described.{IsDescription};
 ghost use Rattle.octal_code.specs.Text.{code_text};
 ghost use Rattle.opened_infinite.specs.Texts.{code_of};
+ghost use Rattle.presented_descriptions.specs.Described.{presented_text_for};
 ghost use Rattle.told_answers.specs.Asked.{IsUnshared};
 
 use allocation::Memory;
+use infinite_answers::Infinite;
 use infinite_descriptions::{Output, described};
 use opened_infinite::{AcceptedText, OpenedInfinite};
+use presented_checker::PresentedQuotient;
+use presented_descriptions::presented_text;
 use std::alloc::Global;
 use told_answers::{DONE, MEMORY, NO_ROOM, NOT_IN_RANGE, NOT_OPEN};
 
-/// A whole game has no description.
-const NOT_DESCRIBED: u32 = 16;
+/// There is no such text of what is opened: a whole game has no description, and only a presentation has words.
+pub(crate) const NOT_DESCRIBED: u32 = 16;
 
 /// The output of this number.
 fn output_at(output: u32) -> Option<Output>
@@ -28,6 +33,40 @@ fn output_at(output: u32) -> Option<Output>
     }
 }
 
+/// The text of a presentation; or the status.
+fn presented(alloc: Global, quotient: &PresentedQuotient, output: Output) -> Result<Vec<u8>, u32>
+    ensures told { IfOk result (λ t. t.items ≡ presented_text_for output quotient.now) }
+    ensures no { IfErr result (λ s. s ≡ 9) }
+{
+    match presented_text(alloc, quotient, output) {
+        Ok(text) => Ok(text.into_bytes()),
+        Err(_) => Err(MEMORY),
+    }
+}
+
+/// The text of a certificate with tracks; or the status.
+fn tracked(alloc: Global, tracks: &Infinite, output: Output) -> Result<Vec<u8>, u32>
+    ensures told { IfOk result (λ t. IsDescription output tracks.now t.items) }
+    ensures no { IfErr result (λ s. s ≡ 9) }
+{
+    match described(alloc, tracks, output) {
+        Ok(text) => Ok(text),
+        Err(_) => Err(MEMORY),
+    }
+}
+
+/// The text in this output; or the status.
+fn text_of(alloc: Global, shown: &AcceptedText, output: Output) -> Result<Vec<u8>, u32>
+    ensures told { IfOk result (λ t. IsTextBy output shown.now t.items) }
+    ensures why { IfErr result (IsUndescribed shown.now) }
+{
+    match shown {
+        AcceptedText::Tracks(tracks) => tracked(alloc, tracks, output),
+        AcceptedText::Whole(_) => Err(NOT_DESCRIBED),
+        AcceptedText::Presented(quotient) => presented(alloc, quotient, output),
+    }
+}
+
 /// The text that is asked for of the quotient; or the status.
 fn text_in(alloc: Global, shown: &AcceptedText, output: u32) -> Result<Vec<u8>, u32>
     ensures told { IfOk result (λ t. IsTextFor output shown.now t.items) }
@@ -37,12 +76,9 @@ fn text_in(alloc: Global, shown: &AcceptedText, output: u32) -> Result<Vec<u8>, 
     let Some(output) = output_at(output) else {
         return Err(NOT_IN_RANGE);
     };
-    let AcceptedText::Tracks(tracks) = shown else {
-        return Err(NOT_DESCRIBED);
-    };
-    match described(alloc, tracks, output) {
+    match text_of(alloc, shown, output) {
         Ok(text) => Ok(text),
-        Err(_) => Err(MEMORY),
+        Err(status) => Err(status),
     }
 }
 
@@ -108,6 +144,7 @@ fn code_in(alloc: Global, shown: &AcceptedText) -> Result<String, Memory>
     match shown {
         AcceptedText::Tracks(tracks) => tracks.code().text(alloc),
         AcceptedText::Whole(game) => game.code().text(alloc),
+        AcceptedText::Presented(quotient) => quotient.code().text(alloc),
     }
 }
 

@@ -1,6 +1,9 @@
-//! The description of an infinite quotient that was opened, and its code, as they are asked from C.
+//! The description of an infinite quotient or a presentation that was opened, its code, and the words of positions, as they
+//! are asked from C.
 #![tactic(auto)]
 
 mod describing;
+mod valuing;
 
 pub use describing::{code, describe, hand_over};
+pub use valuing::value;

@@ -96,8 +96,8 @@ fn presented_answered(
     Ok(Said::done(text))
 }
 
-/// The same, or that the presentation doesn't speak of the position.
-fn presented_played(
+/// The line of the answer in the position by a presentation, or that this doesn't speak of it.
+pub fn presented_played(
     alloc: Global,
     quotient: &PresentedQuotient,
     position: &Position,

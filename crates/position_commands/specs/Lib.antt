@@ -1,4 +1,5 @@
 pub mod Apart
+pub mod Kinds
 pub mod Lines
 pub mod Said
 pub mod Values

@@ -3,7 +3,7 @@ use Rattle.std.specs.Prelude.{◌≡◌, ◌⊎◌, ℕ, Bool, true, false, List
 use Rattle.misere_theory.specs.Certificates.{Certificate}
 use Rattle.positions.specs.Text.{IsTextOf}
 use Rattle.player.specs.Answers.{SpeaksOf}
-use Rattle.check_command.specs.Checks.{Certifies, Checks, Failed, IsGivenCause}
+use Rattle.check_command.specs.Checks.{Failed, IsGivenCause}
 use Rattle.command_results.specs.declared.stop.Stop.{Stop}
 use Rattle.command_results.specs.declared.stop.Stop.TheVariants.{NotAPosition}
 use Rattle.play_command.specs.Lines.{beyond_line}
@@ -15,7 +15,7 @@ use Rattle.given_quotients.specs.declared.giving.Quotient.{Quotient}
 use Rattle.given_quotients.specs.declared.giving.Quotient.TheVariants.{Finite, Whole, Presented}
 use Rattle.position_commands.specs.Apart.{SaysApart, SaysApartOfWhole, SaysApartOfPresented}
 use Rattle.position_commands.specs.Values.{TellsValue, TellsWholeValue, TellsForm}
-use Rattle.position_commands.specs.Wins.{TellsWins}
+use Rattle.position_commands.specs.Wins.{TellsPresentedWins, TellsWins}
 
 -- `Speaks` says of a certificate that it speaks of the positions that are asked about, and `Answers` that
 -- a text answers by it, and whether it ends well.
@@ -26,17 +26,6 @@ module _ (Speaks : Certificate → Type 0) (Answers : Certificate → List ℕ �
   SaysBy c text succeeds =
       (Speaks c × Answers c text succeeds)
       ⊎ ((c.period ≡ 0) × (Speaks c → ⊥) × (text ≡ beyond_line) × (succeeds ≡ false))
-
-  -- the same if a quotient was found, and the text of a no if none was
-  abbrev pub SaysFound : {A : Type 0} → Result Certificate (Vec ℕ A) → List ℕ → Bool → Type 0
-  SaysFound (Ok c) text succeeds = SaysBy c text succeeds
-  SaysFound (Err said) text succeeds = (text ≡ said.items) × (succeeds ≡ false)
-
-  -- the same by the quotient that such bytes certify under the limit, or the text of a true no
-  abbrev pub SaysGiven : (List ℕ → Type 0) → ℕ → List ℕ → Bool → Type 0
-  SaysGiven Are limit text succeeds =
-      ((c : Certificate) × Certifies Are limit c × SaysBy c text succeeds)
-      ⊎ (Checks Are limit text false × (succeeds ≡ false))
 
 -- `InFinite`, `InWhole` and `ByForms` say what is said by a quotient of each kind.
 module _ (InFinite : Certificate → List ℕ → Bool → Type 0)
@@ -65,11 +54,18 @@ AsksValue Are limit position text succeeds =
     × SaysGivenOf (λ c. SaysBy (λ d. SpeaksOf d X) (λ d t s. TellsValue d X t × (s ≡ true)) c)
     (λ c. TellsWholeValue c X) (λ k. TellsForm k X) Are limit text succeeds
 
--- all winning moves in it, by a finite quotient
+-- all winning moves in it, by one quotient
+abbrev pub SaysWins : List ℕ → Quotient → List ℕ → Bool → Type 0
+SaysWins X =
+    SaysOf (λ c. SaysBy (λ d. SpeaksOf d X) (λ d. TellsWins (Finite d) X) c) (λ c. TellsWins (Whole c) X)
+    (λ k. TellsPresentedWins k X)
+
+-- the same of the quotient that is given
 abbrev pub AsksWins : (List ℕ → Type 0) → ℕ → List ℕ → List ℕ → Bool → Type 0
 AsksWins Are limit position text succeeds =
     (X : List ℕ) × IsTextOf position X
-    × SaysGiven (λ c. SpeaksOf c X) (λ c. TellsWins c X) Are limit text succeeds
+    × SaysGivenOf (λ c. SaysBy (λ d. SpeaksOf d X) (λ d. TellsWins (Finite d) X) c)
+    (λ c. TellsWins (Whole c) X) (λ k. TellsPresentedWins k X) Are limit text succeeds
 
 -- what tells the two positions apart that the words spell
 abbrev pub AsksOfTwo : (List ℕ → Type 0) → ℕ → List ℕ → List ℕ → List ℕ → Bool → Type 0

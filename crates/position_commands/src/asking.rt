@@ -1,30 +1,29 @@
 //! `play --all`: all winning moves in a position, out of a file.
 ghost use Rattle.std.specs.Prelude.{◌≡◌, false, true, IfOk, IfErr, IsErrOf, is_none, is_some, option_map};
 ghost use Rattle.check_command.specs.Checks.{AreGiven, failed};
+ghost use Rattle.given_quotients.specs.declared.giving.Quotient.TheVariants.{Finite, Whole};
 ghost use Rattle.play_command.specs.Plays.{IsPlayCause};
 ghost use Rattle.player.specs.Answers.{SpeaksOf};
-ghost use Rattle.position_commands.specs.Said.{AsksWins, SaysBy, SaysFound};
-ghost use Rattle.position_commands.specs.Wins.{TellsWins};
+ghost use Rattle.position_commands.specs.Said.{AsksWins, SaysBy, SaysFoundOf, SaysWins};
+ghost use Rattle.position_commands.specs.Wins.{TellsPresentedWins, TellsWins};
 
+use crate::quotients::speaks_of;
 use crate::wins::wins_said;
 use allocation::Memory;
-use answers::Certified;
-use check_command::certified;
 use command_results::{Said, Stop};
 use folders::Folder;
+use given_quotients::{Quotient, quotient_of};
 use play_command::{beyond, position_of};
-use player::fits;
 use positions::Position;
 use std::alloc::Global;
 use streams::Source;
 
-/// What the certificate says of the position.
-fn said_by(alloc: Global, certified: &Certified, position: &Position) -> Result<Said, Memory>
-    ensures { IfOk result (λ s. SaysBy (λ c. SpeaksOf c position.now) (λ c. TellsWins c position.now)
-        certified.now s.text.items s.succeeds) }
+/// What the quotient says of the position.
+fn said_by(alloc: Global, quotient: &Quotient, position: &Position) -> Result<Said, Memory>
+    ensures { IfOk result (λ s. SaysWins position.now quotient.now s.text.items s.succeeds) }
 {
-    if fits(certified, position) {
-        return wins_said(alloc, certified, position);
+    if speaks_of(quotient, position) {
+        return wins_said(alloc, quotient, position);
     }
     let said = beyond(alloc)?;
     Ok(said)
@@ -33,21 +32,22 @@ fn said_by(alloc: Global, certified: &Certified, position: &Position) -> Result<
 /// What is said of the position by what was found.
 fn said_in(
     alloc: Global,
-    quotient: Result<Certified, Vec<u8>>,
+    found: Result<Quotient, Vec<u8>>,
     position: &Position,
 ) -> Result<Said, Memory>
     ensures { IfOk result
-        (λ s. SaysFound (λ c. SpeaksOf c position.now) (λ c. TellsWins c position.now) quotient
-        s.text.items s.succeeds) }
+        (λ s. SaysFoundOf (λ c. SaysBy (λ d. SpeaksOf d position.now) (λ d. TellsWins (Finite d) position.now) c)
+        (λ c. TellsWins (Whole c) position.now) (λ k. TellsPresentedWins k position.now) found s.text.items
+        s.succeeds) }
 {
-    match quotient {
-        Ok(certified) => said_by(alloc, &certified, position),
+    match found {
+        Ok(quotient) => said_by(alloc, &quotient, position),
         Err(no) => Ok(Said::no(no)),
     }
 }
 
-/// All winning moves in the position by the finite quotient that the file, or standard input where no file
-/// is named, certifies under the limit; or says that a partial quotient doesn't speak of the position, or
+/// All winning moves in the position by the quotient that the file, or standard input where no file is named,
+/// gives under the limit, of those that a player looks at; or says that a quotient doesn't speak of the position, or
 /// why there is none. The position is read first.
 pub fn all_wins<'a, F: Folder, S: Source>(
     alloc: Global,
@@ -70,8 +70,8 @@ pub fn all_wins<'a, F: Folder, S: Source>(
         → folder.new ≡ folder.old }
 {
     let position = position_of(alloc, position)?;
-    let quotient = certified(alloc, file, limit, folder, input)?;
-    match said_in(alloc, quotient, &position) {
+    let found = quotient_of(alloc, file, limit, folder, input)?;
+    match said_in(alloc, found, &position) {
         Ok(said) => Ok(said),
         Err(Memory) => Err(Stop::Memory),
     }

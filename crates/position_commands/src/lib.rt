@@ -3,6 +3,7 @@
 
 mod asking;
 mod lines;
+mod quotients;
 mod telling;
 mod valuing;
 mod wins;

@@ -1,72 +1,88 @@
 //! All winning moves in a position.
-ghost use Rattle.std.specs.Prelude.{◌≡◌, ◌<◌, ◌*◌, ℕ, List, IfOk, length, remove, slice_index};
+ghost use Rattle.std.specs.Prelude.{◌≡◌, ◌<◌, ◌↔◌, ◌++◌, IfOk, IsTrue, length, remove, slice_index};
 ghost use Rattle.std.specs.String.{string_bytes};
-ghost use Rattle.misere_theory.specs.Certificates.{Accepted, IsHeapOf, claim_of};
-ghost use Rattle.misere_theory.specs.Games.{IsPosition};
-ghost use Rattle.misere_theory.specs.Quotients.{value};
-ghost use Rattle.heap_options.specs.Exact.{heaps_of};
-ghost use Rattle.play_command.specs.Lines.{win_line};
-ghost use Rattle.player.specs.Answers.{SpeaksOf};
-ghost use Rattle.player.specs.Looks.{most_looks, puts};
-ghost use Rattle.position_commands.specs.Wins.{AreHeapWins, AreOptionWins, TellsWins, looks_of};
+ghost use Rattle.misere_theory.specs.Games.{HeapOption, IsP};
+ghost use Rattle.misere_theory.specs.Plays.{IsWinningMove};
+ghost use Rattle.heap_options.specs.Exact.{IsInOrder, heaps_of};
+ghost use Rattle.position_commands.specs.Kinds.{SpeaksIn, code_of, looks_of};
+ghost use Rattle.position_commands.specs.Wins.{AreHeapWins, AreOptionWins, TellsWins};
 
 use crate::lines::many_text;
+use crate::quotients::{answer_in, looks, looks_bound, outcome_at, stays_inside};
 use allocation::Memory;
-use answers::Certified;
 use command_results::Said;
+use given_quotients::Quotient;
+use heap_options::options_are_exact;
 use play_command::answer_text;
-use player::{Answer, answer, looks};
+use player::{Answer, Outcome};
 use positions::{Left, Move, Position};
-use std::alloc::Global;
+use std::alloc::{AllocError, Global};
 
 /// The most options of a heap of which all that win are printed.
 pub const MOST_LOOKS: u64 = 1_000_000;
 
-/// How many options of a heap there are to look at, at most.
-fn looks_bound(certified: &Certified) -> u64
-    ensures { result ≡ most_looks certified.now }
+/// The heaps where so much is left of the heap at a place.
+fn moved(alloc: Global, heaps: &[u64], at: usize, left: Left) -> Result<Vec<u64>, AllocError>
+    requires { at < length heaps.now }
+    ensures { IfOk result (λ m. m.items ≡ heaps_of left ++ remove heaps.now at) }
 {
-    let cert = certified.cert();
-    let digits = cert.code().last() as u64 + 1;
-    let parts = cert.start() + cert.period() + 1;
-    if cert.code().leaves_three() {
-        digits * (parts * parts)
-    } else {
-        digits * parts
+    let mut moved = Vec::new(alloc);
+    moved.extend_from_slice(left.heaps().as_slice())?;
+    moved.extend_from_slice(&heaps[..at])?;
+    moved.extend_from_slice(&heaps[at + 1..])?;
+    Ok(moved)
+}
+
+/// Whether the position of these heaps, of which the quotient speaks, is P.
+fn is_p(quotient: &Quotient, heaps: &[u64]) -> bool
+    requires { SpeaksIn quotient.now heaps.now }
+    ensures { IsTrue result ↔ IsP (code_of quotient.now) heaps.now }
+{
+    match outcome_at(quotient, heaps) {
+        Outcome::P => true,
+        Outcome::N => false,
     }
 }
 
-/// Whether the option makes a value in the P-portion beside heaps of this value.
-fn puts(certified: &Certified, others: u16, left: Left) -> bool
-    requires position { IsPosition (IsHeapOf certified.now) (heaps_of left) }
-    requires within { others < certified.now.order }
-    ensures { result ≡ puts certified.now others (heaps_of left) }
-{
-    let value = certified.value(left.heaps().as_slice());
-    certified.holds(certified.times(others, value))
-}
-
-/// The lines of the winning moves of the heap at a place. `others` is the value of all other heaps.
-fn option_wins(
+/// Whether the move wins that leaves so much of the heap at a place: whether it makes a P-position.
+fn wins(
     alloc: Global,
-    certified: &Certified,
+    quotient: &Quotient,
     heaps: &[u64],
     at: usize,
-    others: u16,
-) -> Result<String, Memory>
-    requires position { IsPosition (IsHeapOf certified.now) heaps.now }
+    left: Left,
+) -> Result<bool, AllocError>
+    requires position { SpeaksIn quotient.now heaps.now }
     requires there { at < length heaps.now }
-    requires within { others < certified.now.order }
-    requires others { others ≡ value (claim_of certified.now) (remove heaps.now at) }
-    ensures { IfOk result
-        (λ t. AreOptionWins certified.now heaps.now (slice_index heaps.now at)
-        (looks_of certified.now (slice_index heaps.now at)) (string_bytes t)) }
+    requires option { HeapOption (code_of quotient.now) (slice_index heaps.now at) (heaps_of left) }
+    requires in_order { IsInOrder left }
+    ensures { IfOk result (λ b. IsTrue b
+        ↔ IsWinningMove (code_of quotient.now) heaps.now (slice_index heaps.now at) (heaps_of left)) }
 {
+    stays_inside(quotient);
+    let moved = moved(alloc, heaps, at, left)?;
+    Ok(is_p(quotient, moved.as_slice()))
+}
+
+/// The lines of the winning moves of the heap at a place.
+fn option_wins(
+    alloc: Global,
+    quotient: &Quotient,
+    heaps: &[u64],
+    at: usize,
+) -> Result<String, Memory>
+    requires position { SpeaksIn quotient.now heaps.now }
+    requires there { at < length heaps.now }
+    ensures { IfOk result
+        (λ t. AreOptionWins (code_of quotient.now) heaps.now (slice_index heaps.now at)
+        (looks_of quotient.now (slice_index heaps.now at)) (string_bytes t)) }
+{
+    options_are_exact();
     let heap = heaps[at];
-    let _ = certified.cert();
     let mut text = String::new(alloc);
-    for left in looks(certified, heap) {
-        if puts(certified, others, left) {
+    for left in looks(quotient, heap) {
+        let is_win = wins(alloc, quotient, heaps, at, left)?;
+        if is_win {
             let line = answer_text(alloc, Answer::Wins(Move { heap, left }))?;
             text.push_str(line.as_str())?;
         }
@@ -74,49 +90,36 @@ fn option_wins(
     Ok(text)
 }
 
-/// The value of all heaps but the one at a place.
-fn value_beside(certified: &Certified, heaps: &[u64], at: usize) -> u16
-    requires position { IsPosition (IsHeapOf certified.now) heaps.now }
-    requires there { at < length heaps.now }
-    ensures value { result ≡ value (claim_of certified.now) (remove heaps.now at) }
-    ensures within { result < certified.now.order }
-{
-    let before = certified.value(&heaps[..at]);
-    let behind = certified.value(&heaps[at + 1..]);
-    certified.times(before, behind)
-}
-
 /// The lines of the winning moves of all heaps, which are in rising order.
-fn heap_wins(alloc: Global, certified: &Certified, heaps: &[u64]) -> Result<String, Memory>
-    requires { IsPosition (IsHeapOf certified.now) heaps.now }
+fn heap_wins(alloc: Global, quotient: &Quotient, heaps: &[u64]) -> Result<String, Memory>
+    requires { SpeaksIn quotient.now heaps.now }
     ensures { IfOk result
-        (λ t. AreHeapWins certified.now heaps.now (length heaps.now) (string_bytes t)) }
+        (λ t. AreHeapWins quotient.now heaps.now (length heaps.now) (string_bytes t)) }
 {
     let mut text = String::new(alloc);
     for at in 0..heaps.len() {
         if at == 0 || heaps[at - 1] != heaps[at] {
-            let others = value_beside(certified, heaps, at);
-            let lines = option_wins(alloc, certified, heaps, at, others)?;
+            let lines = option_wins(alloc, quotient, heaps, at)?;
             text.push_str(lines.as_str())?;
         }
     }
     Ok(text)
 }
 
-/// The winning moves of the position, of which the certificate speaks; or that there is none, and why.
+/// The winning moves of the position, of which the quotient speaks; or that there is none, and why.
 pub(crate) fn wins_said(
     alloc: Global,
-    certified: &Certified,
+    quotient: &Quotient,
     position: &Position,
 ) -> Result<Said, Memory>
-    requires { SpeaksOf certified.now position.now }
-    ensures { IfOk result (λ s. TellsWins certified.now position.now s.text.items s.succeeds) }
+    requires { SpeaksIn quotient.now position.now }
+    ensures { IfOk result (λ s. TellsWins quotient.now position.now s.text.items s.succeeds) }
 {
-    match answer(certified, position) {
-        Answer::Wins(_) if looks_bound(certified) > MOST_LOOKS => {
+    match answer_in(quotient, position) {
+        Answer::Wins(_) if looks_bound(quotient) > MOST_LOOKS => {
             Ok(Said::no(many_text(alloc)?.into_bytes()))
         }
-        Answer::Wins(_) => Ok(Said::done(heap_wins(alloc, certified, position.heaps())?)),
+        Answer::Wins(_) => Ok(Said::done(heap_wins(alloc, quotient, position.heaps())?)),
         none => Ok(Said::done(answer_text(alloc, none)?)),
     }
 }

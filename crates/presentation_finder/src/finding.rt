@@ -57,7 +57,7 @@ fn attempted<A: SmallAllocator + Copy>(
 }
 
 /// Looks for a presentation of a claim.
-fn presented<A: SmallAllocator + Copy>(
+pub(crate) fn presented<A: SmallAllocator + Copy>(
     alloc: A,
     source: &ClaimValues<A>,
 ) -> Result<Result<FoundPresentation<A>, Unpresented>, Memory>

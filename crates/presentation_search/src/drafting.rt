@@ -1,15 +1,15 @@
 //! The text of a presentation.
 use crate::letters::LetterHeaps;
+use crate::sources::ClaimValues;
 use crate::words::{exponent, last_letter};
 use normal_forms::{Exponents, Rule};
-use octal_code::Code;
 use presentations::LETTERS;
 use presented_text::LetterCycle;
 use quotient_search::Halt;
 use std::alloc::Allocator;
 
-/// What a text says beside the code: letters, heaps' words, relations by the order of their left words, cycles and
-/// portion.
+/// What a text says beside the code and the period: letters, heaps' words, relations by the order of their left words,
+/// cycles and portion.
 #[derive(Drop)]
 pub struct FoundLines<A: Allocator> {
     pub letters: LetterHeaps<A>,
@@ -64,11 +64,14 @@ impl<A: Allocator + Copy> Draft<A> {
     }
 
     /// The lines up to the words of the heaps.
-    fn add_head(&mut self, code: &Code, found: &FoundLines<A>) -> Result<(), Halt> {
-        let code = code.text(self.alloc)?;
+    fn add_head(&mut self, source: &ClaimValues<A>, found: &FoundLines<A>) -> Result<(), Halt> {
+        let code = source.code.text(self.alloc)?;
         self.add("mqp 1\ncode ")?;
         self.add(code.as_str())?;
         self.add_number("\nheaps ", found.words.len())?;
+        if source.period > 0 {
+            self.add_number(" period ", source.period as usize)?;
+        }
         self.add("\nletters")?;
         for heap in found.letters.heaps.iter() {
             self.add_number(" ", *heap)?;
@@ -114,14 +117,14 @@ impl<A: Allocator + Copy> Draft<A> {
 /// The text of what was found.
 pub fn drafted<A: Allocator + Copy>(
     alloc: A,
-    code: &Code,
+    source: &ClaimValues<A>,
     found: &FoundLines<A>,
 ) -> Result<Vec<u8, A>, Halt> {
     let mut draft = Draft {
         alloc,
         text: Vec::new(alloc),
     };
-    draft.add_head(code, found)?;
+    draft.add_head(source, found)?;
     for letter in 0..found.letters.heaps.len() {
         draft.add_relations(&found.rules, letter)?;
     }

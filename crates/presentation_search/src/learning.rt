@@ -13,6 +13,9 @@ const MOST_WORDS: usize = 400_000;
 /// The most relations.
 const MOST_RELATIONS: usize = 4096;
 
+/// The most letters of a word that is looked at.
+pub const LONGEST_WORD: u32 = 4096;
+
 /// How far it goes: values in a window, and words of so many letters.
 #[derive(Clone, Copy)]
 pub struct WordExtent {

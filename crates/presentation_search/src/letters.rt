@@ -1,18 +1,27 @@
 //! The letters: heaps of which the products are all values.
 use crate::contexts::contexts_of;
-use crate::learning::{Learned, WordExtent, learn};
+use crate::learning::{LONGEST_WORD, Learned, WordExtent, learn};
 use crate::reach::reaches_of;
 use crate::sources::ClaimValues;
 use crate::telling::Contexts;
-use crate::values::Value;
+use crate::values::{Value, ValueTable};
 use crate::words::ONE;
 use normal_forms::Exponents;
 use presentations::LETTERS;
 use quotient_search::{Halt, Work};
 use std::alloc::Allocator;
 
-/// Of how many letters at most a heap's word is looked for.
+/// Of how many letters at most a heap's word is looked for where something is counted.
 const LONGEST: u32 = 8;
+
+/// Of how many letters at most a heap's word is looked for, at an attempt.
+fn longest<A: Allocator>(values: &ValueTable<A>, attempt: u32) -> u32 {
+    if values.is_counting() {
+        LONGEST.saturating_mul(attempt.saturating_add(1))
+    } else {
+        LONGEST_WORD
+    }
+}
 
 /// Letters: their heaps, and these heaps' values.
 #[derive(Drop)]
@@ -131,7 +140,7 @@ pub fn letters_of<A: Allocator + Copy>(
     };
     let extent = WordExtent {
         window: reaches.words,
-        length: LONGEST.saturating_mul(attempt.saturating_add(1)),
+        length: longest(&source.values, attempt),
     };
     let new = new_letters(alloc, &mut contexts, &all, extent, work)?;
     let letters = needed(alloc, &mut contexts, new, extent, work)?;

@@ -7,7 +7,8 @@
 //! 1. A claim with tracks that a check has accepted tells the outcome of each position by its *value*: an element,
 //!    and on each track the downs and ups that are left when steps are taken from both. Values are multiplied. So two
 //!    values are indistinguishable exactly if no value of a position, their *context*, tells them apart. Contexts
-//!    whose downs and ups are far apart repeat those that are nearer, so a *window* of them is tried.
+//!    whose downs and ups are far apart repeat those that are nearer, so a *window* of them is tried. The values of a
+//!    finite quotient are its elements, and all of them are contexts.
 //! 2. Words are taken by their order, letter by letter. One that no left word divides goes down a tree of contexts to
 //!    the one standard word that it may be (Kearns and Vazirani's discrimination tree). If no context tells the two
 //!    apart, it is the left word of a relation (Buchberger and Möller); else it is a new standard word, and the tree
@@ -35,4 +36,4 @@ mod values;
 mod words;
 
 pub use searching::text_of;
-pub use sources::{ClaimValues, of_tracked};
+pub use sources::{ClaimValues, of_certified, of_tracked};

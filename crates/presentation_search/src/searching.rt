@@ -2,7 +2,7 @@
 use crate::contexts::contexts_of;
 use crate::cycles::shortened;
 use crate::drafting::{FoundLines, drafted};
-use crate::learning::{WordExtent, learn};
+use crate::learning::{LONGEST_WORD, WordExtent, learn};
 use crate::letters::{LetterHeaps, letters_of, words_of};
 use crate::portion::{Letterings, long_cycles};
 use crate::reach::reaches_of;
@@ -14,9 +14,6 @@ use std::alloc::Allocator;
 
 /// The work that one attempt may take.
 const ATTEMPT_WORK: u64 = 200_000_000_000;
-
-/// The most letters of a word that is looked at.
-const LONGEST_WORD: u32 = 4096;
 
 /// What is found of a claim, at an attempt, with its letters.
 fn found_with<A: Allocator + Copy>(
@@ -69,5 +66,5 @@ pub fn text_of<A: Allocator + Copy>(
     let mut work = Work::new(ATTEMPT_WORK);
     let (letters, known) = letters_of(alloc, source, attempt, &mut work)?;
     let found = found_with(alloc, source, letters, known, attempt, &mut work)?;
-    drafted(alloc, &source.code, &found)
+    drafted(alloc, source, &found)
 }

@@ -58,6 +58,11 @@ impl<A: Allocator> ValueTable<A> {
         }
     }
 
+    /// Whether something is counted beside the elements.
+    pub fn is_counting(&self) -> bool {
+        self.places > 1
+    }
+
     /// Whether a value is P.
     #[inline]
     pub fn is_p(&self, value: Value) -> bool {

@@ -56,8 +56,8 @@ fn endless_text(
     Ok(text)
 }
 
-/// The line of a presentation that is right.
-fn yes_text(alloc: Global, quotient: &PresentedQuotient) -> Result<String, Memory>
+/// The line of a presentation that is right: how many elements its quotient has, or that they are infinitely many.
+pub fn yes_text(alloc: Global, quotient: &PresentedQuotient) -> Result<String, Memory>
     ensures { IfOk result (λ t. string_bytes t ≡ presented_line quotient.now) }
 {
     match quotient.order() {

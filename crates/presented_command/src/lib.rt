@@ -3,4 +3,4 @@
 
 mod checking;
 
-pub use checking::presented_said;
+pub use checking::{presented_said, yes_text};

@@ -217,6 +217,8 @@ pub enum Output {
     GapTable,
     /// Its idempotents, with the archimedean component and the group of each.
     Structure,
+    /// The text of its presentation, which `verify` judges.
+    Presentation,
 }
 
 /// How an infinite quotient is printed.

@@ -40,7 +40,8 @@ impl Certificate {
     }
 }
 
-/// Which heaps a text of an infinite quotient speaks of: those up to the last one, but for some; or all, and then there is no last one.
+/// Which heaps a text of an infinite quotient, or a presentation, speaks of: those up to the last one, but for some; or all, and then there
+/// is no last one.
 #[derive(Debug)]
 pub(crate) struct Part {
     pub code: String,
@@ -82,17 +83,21 @@ pub(crate) fn read(bytes: &[u8]) -> Option<Certificate> {
     })
 }
 
-/// What a text of an infinite quotient says of its heaps; none of a text that is no certificate. One of a whole game speaks of all. A
-/// heap that a certificate with tracks leaves out is a minus in the line of their elements.
+/// What a text of an infinite quotient, or a presentation, says of its heaps; none of a text that is no certificate. One of a whole game
+/// speaks of all. A heap that is left out is a minus in the line of the heaps' elements or words.
 pub(crate) fn read_part(bytes: &[u8]) -> Option<Part> {
     let text = std::str::from_utf8(bytes).ok()?;
     let code = lines(text, "code").next()?.collect();
     if text.starts_with("mqw ") {
         return Some(Part { code, last_heap: None, without: Vec::new() });
     }
+    let listed = lines(text, if text.starts_with("mqp ") { "words" } else { "phi" }).next()?;
+    let mut heaps = lines(text, "heaps").next()?;
+    let last = heaps.next()?.parse().ok()?;
     Some(Part {
         code,
-        last_heap: Some(lines(text, "heaps").next()?.next()?.parse().ok()?),
-        without: (1..).zip(lines(text, "phi").next()?).filter(|(_, element)| *element == "-").map(|(heap, _)| heap).collect(),
+        // (behind it a presentation of a whole game has its period)
+        last_heap: heaps.next().is_none().then_some(last),
+        without: (1..).zip(listed).filter(|(_, element)| *element == "-").map(|(heap, _)| heap).collect(),
     })
 }

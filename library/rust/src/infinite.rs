@@ -1,4 +1,4 @@
-//! A certified infinite quotient, and what it is asked.
+//! A certified infinite quotient, or one that is presented, and what it is asked.
 
 use crate::answers::{Answer, Outcome};
 use crate::bounds::{LIMIT, MOST_BYTES};
@@ -11,7 +11,7 @@ use crate::refusal::Refusal;
 use std::fmt;
 use std::sync::Arc;
 
-/// What is told of an infinite quotient. The numbers are those of the outputs of a finite one.
+/// What is told of an infinite quotient, and of one that is presented. The numbers are those of the outputs of a finite one.
 #[derive(Clone, Copy, Debug, PartialEq, Eq)]
 pub enum InfiniteOutput {
     /// Lines for readers.
@@ -23,7 +23,8 @@ pub enum InfiniteOutput {
 }
 
 /// A certified infinite misère quotient: the outcomes of all positions of some heaps of a game, or of all its positions, which no finite
-/// quotient predicts. It is made by a check alone, and doesn't change.
+/// quotient predicts. Or one that generators and relations present, which may be finite: [`order`](InfiniteQuotient::order) says so. It is made
+/// by a check alone, and doesn't change.
 ///
 /// A game may have several certificates, with other heaps or monoids. They never contradict each other. What is said of threads, clones
 /// and drops of a [`Quotient`](crate::Quotient) holds of these.
@@ -35,8 +36,8 @@ pub struct InfiniteQuotient {
 }
 
 impl InfiniteQuotient {
-    /// The infinite quotient that the certificate is of, which begins with `mqi 1`, or with `mqw 1` if it is of a whole game. [`LIMIT`]
-    /// is the limit where nobody asks for more or less.
+    /// The infinite quotient that the certificate is of, which begins with `mqi 1`, or with `mqw 1` if it is of a whole game; or the quotient that
+    /// a presentation is, which begins with `mqp 1`. [`LIMIT`] is the limit where nobody asks for more or less.
     pub fn check(bytes: impl AsRef<[u8]>, limit: u32) -> Result<InfiniteQuotient, Refusal> {
         let bytes: Arc<[u8]> = bytes.as_ref().into();
         let opened = Opened::check(&bytes, limit)?;
@@ -47,10 +48,20 @@ impl InfiniteQuotient {
     /// An infinite quotient of the game of a code, such as `0.26`: that of the whole game, if its text is found, or else that of the heaps 1
     /// to some heap up to `bounds.heaps`; or why none was found. Some searches take a minute.
     pub fn solve(code: &str, bounds: InfiniteBounds) -> Result<InfiniteQuotient, NotFound> {
+        InfiniteQuotient::found(code, bounds, raw::misere_solve_infinite)
+    }
+
+    /// An infinite quotient of the heaps 1 to some heap up to `bounds.heaps`, by generators and relations; or why none was found. Some searches
+    /// take a minute.
+    pub fn solve_presented(code: &str, bounds: InfiniteBounds) -> Result<InfiniteQuotient, NotFound> {
+        InfiniteQuotient::found(code, bounds, raw::misere_solve_presented)
+    }
+
+    fn found(code: &str, bounds: InfiniteBounds, call: raw::SolveInfinite) -> Result<InfiniteQuotient, NotFound> {
         let InfiniteBounds { limit, heaps, order } = bounds;
         let (status, told) = status_and_told(MOST_BYTES, |told, count| {
             // SAFETY: each pointer stands with the length of its slice, and `count` is borrowed for the call.
-            unsafe { raw::misere_solve_infinite(code.as_ptr(), code.len(), limit, heaps, order, told.as_mut_ptr(), told.len(), count) }
+            unsafe { call(code.as_ptr(), code.len(), limit, heaps, order, told.as_mut_ptr(), told.len(), count) }
         });
         match Refusal(status) {
             Refusal(0) => Ok(InfiniteQuotient::check(told, limit)?),
@@ -84,8 +95,20 @@ impl InfiniteQuotient {
         &self.part.without
     }
 
-    /// Its monoid, tracks and regions, and the positions that show that the quotient is infinite, with their outcomes. That of a whole game
-    /// is refused, with 16.
+    /// How many elements a presented quotient has; none if it is infinite, as that of each other text is.
+    pub fn order(&self) -> Result<Option<u64>, Refusal> {
+        Ok(Some(self.opened.order()?).filter(|order| *order > 0))
+    }
+
+    /// The element of a position by a presentation, as a word in its letters, such as `ab^2`, or `1`. Two positions are indistinguishable
+    /// exactly if these are equal. By another text it is refused, with 16.
+    pub fn value(&self, heaps: &[u64]) -> Result<String, Refusal> {
+        let text = told_by(USUAL, |told, count| self.opened.value(heaps, told, count))?;
+        Ok(String::from_utf8_lossy(&text).into_owned())
+    }
+
+    /// Its monoid, tracks and regions, and the positions that show that the quotient is infinite, with their outcomes; of a presentation its
+    /// generators, relations, portion and words. That of a whole game, `mqw`, is refused, with 16.
     pub fn describe(&self, output: InfiniteOutput) -> Result<String, Refusal> {
         let text = told_by(USUAL, |told, count| self.opened.describe(output as u32, told, count))?;
         Ok(String::from_utf8_lossy(&text).into_owned())

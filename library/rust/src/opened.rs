@@ -147,6 +147,18 @@ impl Opened<Infinite> {
         // SAFETY: the pointer stands with the length of its slice, and the rest is borrowed for the call.
         unsafe { raw::misere_infinite_describe(self.alone(), output, told.as_mut_ptr(), told.len(), count) }
     }
+
+    pub fn order(&self) -> Result<u64, Refusal> {
+        let mut told = 0;
+        // SAFETY: all is borrowed for the call.
+        let status = unsafe { raw::misere_infinite_order(self.alone(), &mut told) };
+        done(status, told)
+    }
+
+    pub fn value(&self, heaps: &[u64], told: &mut [u8], count: &mut u64) -> u32 {
+        // SAFETY: each pointer stands with the length of its slice, and the rest is borrowed for the call.
+        unsafe { raw::misere_infinite_value(self.alone(), heaps.as_ptr(), heaps.len(), told.as_mut_ptr(), told.len(), count) }
+    }
 }
 
 /// Where each of the positions ends, if they stand one after another.

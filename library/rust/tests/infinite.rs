@@ -53,6 +53,32 @@ fn a_whole_game_is_told_of_any_heaps() {
     assert_eq!(Quotient::check(sample("0.26.mqw"), LIMIT).err(), Some(Refusal::TEXT));
 }
 
+/// A heap 3 of 0.404 has one move, which leaves 1 and 1, and heaps of 1 and 2 have none.
+#[test]
+fn a_presentation_is_told_and_has_words() {
+    let quotient = infinite("0.404_heaps_12.mqp");
+    assert_eq!((quotient.code(), quotient.last_heap(), quotient.order()), ("0.404", Some(12), Ok(None)));
+    let rows: [(&[u64], Answer, &str); 4] = [
+        (&[1, 2], Answer::Ended, "1"),
+        (&[3], Answer::Lost, "a"),
+        (&[3, 3], Answer::Wins { heap: 3, left: vec![1, 1] }, "1"),
+        (&[5], Answer::Wins { heap: 5, left: vec![1, 3] }, "b"),
+    ];
+    for (heaps, answer, word) in rows {
+        let outcome = if answer == Answer::Lost { Outcome::P } else { Outcome::N };
+        assert_eq!((quotient.outcome(heaps), quotient.answer(heaps)), (Ok(outcome), Ok(answer)), "{heaps:?}");
+        assert_eq!(quotient.value(heaps).as_deref(), Ok(word));
+    }
+    assert_eq!((quotient.value(&[13]), quotient.value(&[0])), (Err(Refusal::BEYOND), Err(Refusal::NOT_A_HEAP)));
+    assert!(quotient.describe(InfiniteOutput::Description).unwrap().starts_with("Q_12(0.404) = < a,b,c,d,e | a^2 = 1"));
+    let kayles = infinite("0.77.mqp");
+    assert_eq!((kayles.last_heap(), kayles.order(), kayles.value(&[1000]).as_deref()), (None, Ok(Some(40)), Ok("ab^2")));
+    assert_eq!(infinite("0.26.mqw").value(&[1]), Err(Refusal(16)));
+    assert_eq!(InfiniteQuotient::check(sample("refused/part_heap_left_out.mqp"), LIMIT), Err(Refusal(31)));
+    let found = InfiniteQuotient::solve_presented("0.404", InfiniteBounds::default()).unwrap();
+    assert_eq!(found, quotient);
+}
+
 #[test]
 fn families_are_told_as_they_are() {
     let quotient = infinite("0.354_heaps_5.mqi");

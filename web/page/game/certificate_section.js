@@ -15,7 +15,7 @@ const FORMS = {
   singular: "for Singular",
   gap: "for GAP"
 };
-/** Those of an infinite quotient. */
+/** Those of an infinite quotient and of a presentation. */
 const INFINITE_FORMS = /** @type {const} */ (["description", "latex", "json"]);
 
 /**
@@ -41,6 +41,17 @@ export function infiniteSection({text, code, last, leftOut}, describe) {
   /** @type {Form[]} */
   const forms = INFINITE_FORMS.map((output) => [output, FORMS[output], async () => describe?.(output) ?? ""]);
   return keptSection(text, `${code}_heaps_${last}${without}.mqi`, describe ? forms : []);
+}
+
+/**
+ * @param {import("../presented/fields.js").Presented} presented
+ * @param {(output: string) => Promise<string>} describe
+ */
+export function presentedSection({text, code, heaps, period, leftOut}, describe) {
+  const without = leftOut.length ? `_without_${leftOut.join("_")}` : "";
+  /** @type {Form[]} */
+  const forms = INFINITE_FORMS.map((output) => [output, FORMS[output], () => describe(output)]);
+  return keptSection(text, `${code}${period ? "" : `_heaps_${heaps}${without}`}.mqp`, forms);
 }
 
 /** @param {import("../whole/fields.js").Whole} whole */

@@ -51,7 +51,7 @@ const NOT_DESCRIBED = 16;
 export async function present(page, root, bytes, isGame = false) {
   if (isInfinite(bytes)) return presentInfinite(page, root, bytes, isGame);
   if (isWhole(bytes)) return presentWhole(page, root, bytes, isGame);
-  if (isPresented(bytes)) return presentPresented(page, root, bytes);
+  if (isPresented(bytes)) return presentPresented(page, root, bytes, isGame);
   const verdict = make("p", {class: "verdict", id: "verdict", role: "status"}, "Checking …");
   const kind = kindNote(bytes);
   fill(root, kind, verdict);

@@ -5,6 +5,7 @@ import {codeOfName, GAME_NAMES, isCode} from "../codes.js";
 import {fill, make} from "../dom.js";
 import {knownSection} from "../game/known.js";
 import {present} from "../game/present.js";
+import {PRESENTED} from "../presented/fields.js";
 
 /**
  * @param {import("../main.js").Page} page
@@ -27,7 +28,10 @@ export async function gameView(page, root, named) {
 /** @param {string | undefined} part */
 function partTold(part) {
   if (!part) return "";
-  return part === WHOLE ? ", as a whole" : `, to heap ${part.replace("-", " without ")}`;
+  if (part === WHOLE) return ", as a whole";
+  if (!part.startsWith(PRESENTED)) return `, to heap ${part.replace("-", " without ")}`;
+  const [, reach] = part.split(`${PRESENTED}-`);
+  return reach ? `, to heap ${reach.replace("-", " without ")}, presented` : ", presented";
 }
 
 /**
@@ -37,7 +41,7 @@ function partTold(part) {
 function unknown(code, last) {
   if (!isCode(code))
     return make("p", {}, "This is no code of a game. ", make("a", {href: "#atlas"}, "The atlas"), " has some.");
-  const sought = last && last !== WHOLE ? `${code}/${last}` : code;
+  const sought = last && last !== WHOLE && !last.startsWith(PRESENTED) ? `${code}/${last}` : code;
   return make(
       "p", {}, "This page has no certificate of it. ", make("a", {href: `#find=${sought}`}, "Look for its quotient"),
       ".");

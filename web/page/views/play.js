@@ -8,6 +8,7 @@ import {LARGEST_HEAP_PLAYED, MOST_HEAPS_PLAYED} from "../play/bounds.js";
 import {readingOf, USUAL_HEAPS} from "../play/reading.js";
 import {Session} from "../play/session.js";
 import {heapsOfText} from "../positions.js";
+import {PRESENTED} from "../presented/fields.js";
 
 /** @typedef {import("../main.js").Page} Page */
 
@@ -128,9 +129,10 @@ function setupForm({atlas}, name, heaps) {
  * @param {string} name
  */
 function dealt(atlas, name) {
-  const [code, part] = name.split("/");
-  const [last, ...leftOut] = part ? part.split("-").map(Number) : [atlas.entry(code)?.last ?? LARGEST_DEALT];
-  const sizes = Array.from({length: Math.min(LARGEST_DEALT, last)}, (_, at) => at + 1);
+  const [code, part] = name.split("/"), reach = part?.replace(`${PRESENTED}-`, "");
+  const [last, ...leftOut] = reach ? reach.split("-").map(Number) : [atlas.entry(code)?.last ?? LARGEST_DEALT];
+  // (of a whole game it is no number)
+  const sizes = Array.from({length: Math.min(LARGEST_DEALT, last || LARGEST_DEALT)}, (_, at) => at + 1);
   const all = sizes.filter((heap) => !leftOut.includes(heap));
   const chance = (/** @type {number} */ count) => Math.floor(Math.random() * count);
   return Array.from({length: 3 + chance(3)}, () => all[chance(all.length)]).join(" ");

@@ -4,6 +4,8 @@ import pathlib
 import tempfile
 import time
 
+from .game import answered
+
 # As many bytes as a certificate can have
 MOST = 1 << 22
 
@@ -79,14 +81,36 @@ def others(it, program, steps):
 
 
 def presented(it, program, steps, file):
-    """A presentation, which the module doesn't judge."""
-    text = program.certificate("0.75_heaps_22.mqp").read_bytes()
-    for words, these in {"misere verify FILE": text, "line 10": text.replace(b"letters 1 2 5", b"letters 1 2")}.items():
+    """Presentations, accepted and refused, and what is shown of them."""
+    right, whole = (program.certificate(f"{name}.mqp").read_bytes() for name in ("0.75_heaps_22", "0.77"))
+    texts = {
+        "a finite one": right,
+        "an infinite one": program.certificate("0.404_heaps_12.mqp").read_bytes(),
+        "one of a whole game": whole,
+        "one that isn't any": right.replace(b"letters 1 2 5", b"letters 1 2"),
+        "one with a wrong portion": right.replace(b"portion a", b"portion 1 a"),
+    }
+    for name, these in texts.items():
         file.write_bytes(these)
-        said = judged(it, lambda: it.one("#file").send_keys(str(file)), ["Not checked here"])
-        steps.expect(f"a presentation for which {words} is said", words in f"{it.text('#kind')} {said}", said)
-        claimed = "of heap 5" in it.text("#claims")
-        steps.expect("it claims what it says if it says anything", claimed == (these == text), it.text("#claims"))
+        said = judged(it, lambda: it.one("#file").send_keys(str(file)), ("yes ", "infinite ", "no ", "No verdict"))
+        steps.expect(f"a presentation: {name}", said.startswith(program.verdict(file)), said)
+        steps.expect(f"{name} is shown if it is right", bool(it.all("#presentation")) == ("no " not in said[:3]), said)
+    file.write_bytes(texts["an infinite one"])
+    judged(it, lambda: it.one("#file").send_keys(str(file)), ("infinite ",))
+    facts = it.text("#facts")
+    steps.expect("it has its order and its relations", "infinite" in facts and "9" in facts, facts)
+    told = answered(it, "3 3 5")
+    steps.expect("a position has a word", "N: won by" in told and "Its element is b." in told, told)
+    for field, heaps in {"#one": "3 3", "#other": "0"}.items():
+        it.write(field, heaps)
+    it.one("#other").submit()
+    told = it.said("#compared", "istinguishable")
+    steps.expect("equal words are indistinguishable", told.startswith("Indistinguishable"), told)
+    it.one(".links a").click()
+    it.wait(lambda: it.all(".heap"))
+    address = it.run("return location.hash")
+    steps.expect("it is played", address == "#play=0.404/presented-12:3,5,9", address)
+    it.go("#check")
 
 
 def large(it, program, steps):

@@ -87,6 +87,8 @@ class Program:
 
     def verdict(self, file):
         """The line of a verdict, with the failing position behind it as the page writes it."""
-        first, *rest = self.told("check" if file.suffix == ".mqc" else "infinite", file).splitlines()
+        kinds = {b"mqp ": "verify", b"mqi ": "infinite", b"mqw ": "infinite"}
+        usual = "check" if file.suffix == ".mqc" else "infinite"
+        first, *rest = self.told(kinds.get(file.read_bytes()[:4], usual), file).splitlines()
         heaps = [word for line in rest for word in line.split()[3:] if word != "0"]
         return f"{first} at [{', '.join(counted(heaps))}]" if first.startswith("no 7") else first

@@ -13,4 +13,5 @@ returns c =
     let seven = c.with_arg-made-7.ensures _ _ _ six c.flag-6.ensures.rule c.flag-6.ensures.local in
     let eight = c.with_arg-made-8.ensures _ _ _ seven c.flag-7.ensures.rule c.flag-7.ensures.local in
     let nine = c.with_arg-made-9.ensures _ _ _ eight c.flag-8.ensures.rule c.flag-8.ensures.local in
-    c.with_arg.ensures _ _ _ nine c.limit.ensures.rule c.limit.ensures.local
+    let ten = c.with_arg-made-10.ensures _ _ _ nine c.flag-9.ensures.rule c.flag-9.ensures.local in
+    c.with_arg.ensures _ _ _ ten c.limit.ensures.rule c.limit.ensures.local

@@ -7,24 +7,25 @@ use Rattle.compare_command.specs.Compared.{Compares, ComparesBeside, left_behind
 use Rattle.compare_command.proofs.Found.{compares_beside, compares_no, found_accepted, of_each_error}
 use Rattle.compare_command.proofs.comparing.compare.Goals as goal
 
-pub returns-in-Ok-clause-compares : goal.returns-in-Ok-clause-compares
-returns-in-Ok-clause-compares g c =
+pub returns-in_ok-a-in-Ok-clause-compares : goal.returns-in_ok-a-in-Ok-clause-compares
+returns-in_ok-a-in-Ok-clause-compares g c =
     let one = option_map (λ (f : Bor (List ℕ)). f.now) c.args.first in
     let other = option_map (λ (f : Bor (List ℕ)). f.now) c.args.second in
     let left = g.S.Source.left c.args.input.now in
-    let mid = g.S.Source.left c.certified.new.input in
+    let mid = g.S.Source.left c.quotient_of.new.input in
     let files = g.F.Folder.files c.args.folder.now in
+    let side = c.in_ok-a-in-Ok.a in
     IfOk-weaker c.compare_beside.result
-    (λ (s : Said). ComparesBeside c.in-Ok.a
-    (AreGiven mid (g.F.Folder.files c.certified.new.folder) other) c.args.limit s.text.items
+    (λ (s : Said). ComparesBeside side
+    (AreGiven mid (g.F.Folder.files c.quotient_of.new.folder) other) c.args.limit s.text.items
     s.succeeds)
     (λ (s : Said). Compares (AreGiven left files one) (AreGiven (left_behind one left) files other)
     c.args.limit s.text.items s.succeeds)
-    (λ s h. compares_beside left mid files one other c.args.limit c.in_ok-a.field-0 c.in-Ok.a
-    s.text.items s.succeeds c.in_ok-a.ensures.found c.in-Ok.is
-    (λ e. ap g.S.Source.left (c.in_ok-a.ensures.input e))
-    (subst (λ f. ComparesBeside c.in-Ok.a (AreGiven mid f other) c.args.limit s.text.items s.succeeds)
-    c.in_ok-a.ensures.kept h))
+    (λ s h. compares_beside left mid files one other c.args.limit c.in_ok-quotient.field-0 c.in-Ok.quotient side
+    s.text.items s.succeeds c.in_ok-quotient.ensures.found c.in-Ok.is c.in_ok-a-in-Ok.ensures
+    (λ e. ap g.S.Source.left (c.in_ok-quotient.ensures.input e))
+    (subst (λ f. ComparesBeside side (AreGiven mid f other) c.args.limit s.text.items s.succeeds)
+    c.in_ok-quotient.ensures.kept h))
     c.compare_beside.ensures.compares
 
 pub returns-in_ok-said-in-Err-clause-compares : goal.returns-in_ok-said-in-Err-clause-compares
@@ -34,17 +35,17 @@ returns-in_ok-said-in-Err-clause-compares g c =
     let left = g.S.Source.left c.args.input.now in
     let files = g.F.Folder.files c.args.folder.now in
     compares_no (AreGiven left files one) (AreGiven (left_behind one left) files other) c.args.limit
-    c.in_ok-a.field-0 c.in-Err.no c.in_ok-said-in-Err.said.text.items
-    c.in_ok-said-in-Err.said.succeeds c.in_ok-a.ensures.found c.in-Err.is
+    c.in_ok-quotient.field-0 c.in-Err.no c.in_ok-said-in-Err.said.text.items
+    c.in_ok-said-in-Err.said.succeeds c.in_ok-quotient.ensures.found c.in-Err.is
     (c.in_ok-said-in-Err.ensures.text
     ∙ ap (λ (t : List ℕ). codes "first: " ++ t) c.deref.ensures.value)
     c.in_ok-said-in-Err.ensures.succeeds
 
-pub returns-in-Ok-clause-order : goal.returns-in-Ok-clause-order
-returns-in-Ok-clause-order g c =
+pub returns-in_ok-a-in-Ok-clause-order : goal.returns-in_ok-a-in-Ok-clause-order
+returns-in_ok-a-in-Ok-clause-order g c =
     let one = option_map (λ (f : Bor (List ℕ)). f.now) c.args.first in
     let left = g.S.Source.left c.args.input.now in
     let files = g.F.Folder.files c.args.folder.now in
     of_each_error c.compare_beside.result _
-    (λ stop. inr (found_accepted (AreGiven left files one) c.args.limit c.in_ok-a.field-0 c.in-Ok.a
-    c.in_ok-a.ensures.found c.in-Ok.is))
+    (λ stop. inr (found_accepted (AreGiven left files one) c.args.limit c.in_ok-quotient.field-0 c.in-Ok.quotient
+    c.in_ok-quotient.ensures.found c.in-Ok.is))

@@ -1,11 +1,12 @@
-use Rattle.std.proofs.Common.{◌∙◌, ◌++◌, ℕ, List, IfOk, ap, codes, subst, sym}
+use Rattle.std.proofs.Common.{◌∙◌, ◌++◌, ℕ, List, ap, codes, subst, sym}
 use Rattle.compare_command.specs.Compared.{SaysFound}
+use Rattle.compare_command.proofs.Found.{says_found}
 use Rattle.compare_command.proofs.comparing.said_beside.Goals as goal
 
-pub returns-in-Ok : goal.returns-in-Ok
-returns-in-Ok c =
-    subst (λ q. IfOk c.said_of.result (λ s. SaysFound c.args.a.now q s.text.items s.succeeds))
-    (sym c.in-Ok.is) c.said_of.ensures
+pub returns-in_ok-b-in-Ok : goal.returns-in_ok-b-in-Ok
+returns-in_ok-b-in-Ok c =
+    says_found c.args.a.now c.args.found c.in-Ok.quotient c.in_ok-b-in-Ok.b c.said_of_operands.result c.in-Ok.is
+    c.in_ok-b-in-Ok.ensures c.said_of_operands.ensures
 
 pub returns-in_ok-no_of-in-Err : goal.returns-in_ok-no_of-in-Err
 returns-in_ok-no_of-in-Err c =

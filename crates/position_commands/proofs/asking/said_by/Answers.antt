@@ -1,9 +1,17 @@
-use Rattle.player.specs.Answers.{SpeaksOf}
-use Rattle.position_commands.specs.Wins.{TellsWins}
-use Rattle.position_commands.proofs.Joined.{answered}
+use Rattle.position_commands.proofs.Joined.{speaking, unspoken}
+use Rattle.position_commands.proofs.Won.{never_both}
 use Rattle.position_commands.proofs.asking.said_by.Goals as goal
 
-pub returns-then-fits : goal.returns-then-fits
-returns-then-fits c =
-    answered (λ d. SpeaksOf d c.args.position.now) (λ d. TellsWins d c.args.position.now)
-    c.args.certified.now c.wins_said.result (c.fits.ensures.fits.0 c.if-fits.true) c.wins_said.ensures
+pub returns-then-speaks_of : goal.returns-then-speaks_of
+returns-then-speaks_of c =
+    speaking c.args.quotient.now c.args.position.now c.wins_said.result
+    (c.speaks_of.ensures.speaks.0 c.if-speaks_of.true) c.wins_said.ensures
+
+pub returns : goal.returns
+returns c =
+    let no = c.if-speaks_of.false in
+    unspoken c.args.quotient.now c.args.position.now c.in_ok-said.said.text.items c.in_ok-said.said.succeeds
+    (λ speaks. never_both c.speaks_of.result (c.speaks_of.ensures.speaks.1 speaks) no)
+    (λ d is some. never_both c.speaks_of.result (c.speaks_of.ensures.full d is some) no)
+    (λ d is. never_both c.speaks_of.result (c.speaks_of.ensures.whole d is) no)
+    c.in_ok-said.ensures.text c.in_ok-said.ensures.succeeds
