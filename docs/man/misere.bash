@@ -11,7 +11,7 @@ _misere() {
         solve) options="--limit --rounds --heaps --deep --any --partial --furthest --order --why --infinite --presented --help" ;;
         series) options="--order --heaps --limit --help" ;;
         show) options="--limit --help" ;;
-        describe) options="--latex --basis --relations --json --singular --gap --gap --structure --limit --help" ;;
+        describe) options="--latex --basis --relations --json --singular --gap --gap-table --structure --presentation --limit --help" ;;
         play) options="--all --limit --help" ;;
         compare) options="--limit --help" ;;
         certify) options="--limit --help" ;;

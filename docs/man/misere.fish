@@ -54,8 +54,9 @@ complete -c misere -n '__fish_seen_subcommand_from describe; and not __fish_seen
 complete -c misere -n '__fish_seen_subcommand_from describe; and not __fish_seen_subcommand_from help' -l json -d 'Print it as one object of JSON'
 complete -c misere -n '__fish_seen_subcommand_from describe; and not __fish_seen_subcommand_from help' -l singular -d 'Print the ideal of the relations, for Singular'
 complete -c misere -n '__fish_seen_subcommand_from describe; and not __fish_seen_subcommand_from help' -l gap -d 'Print the ideal of the relations, for GAP'
-complete -c misere -n '__fish_seen_subcommand_from describe; and not __fish_seen_subcommand_from help' -l gap -d 'Print the multiplication table, the portion and the heaps\' elements, for GAP'
+complete -c misere -n '__fish_seen_subcommand_from describe; and not __fish_seen_subcommand_from help' -l gap-table -d 'Print the multiplication table, the portion and the heaps\' elements, for GAP'
 complete -c misere -n '__fish_seen_subcommand_from describe; and not __fish_seen_subcommand_from help' -l structure -d 'Print the idempotents, with the archimedean component and the group of each'
+complete -c misere -n '__fish_seen_subcommand_from describe; and not __fish_seen_subcommand_from help' -l presentation -d 'Print the text of its presentation, which \'misere verify\' checks'
 complete -c misere -n '__fish_seen_subcommand_from describe; and not __fish_seen_subcommand_from help' -l limit -x -d 'Keep at most N members of a closure: 1 to 1000000, by default 100000'
 complete -c misere -n '__fish_seen_subcommand_from describe; and not __fish_seen_subcommand_from help' -l help -d 'Print help'
 complete -c misere -n '__fish_seen_subcommand_from play; and not __fish_seen_subcommand_from help' -F
