@@ -72,7 +72,6 @@ FILES = {
     "/usr/share/misere/certificates": "Certificates of some games, and in the folder refused such as are refused.",
     "/usr/share/misere/atlas": "The catalogues octal.json and hexadecimal.json of small games, and parts.json.",
     "/usr/share/misere/atlas/infinite": "Certificates of infinite quotients and their presentations, a file each.",
-    "/usr/share/misere/misere.html": "A page for browsers that shows these games, plays and checks, in one file.",
     "/usr/share/misere/scripts": "Scripts that search many codes, survey, merge, codes and survey_table, for Python 3.",
     "/usr/share/doc/misere": "The pages: README.md, docs/TUTORIAL.md to begin with, and the licences.",
 }
