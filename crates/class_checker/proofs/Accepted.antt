@@ -21,7 +21,7 @@ use Rattle.presented_forms.specs.Form.{IsInForm}
 use Rattle.presented_tables.specs.Tested.{HasWord}
 use Rattle.told_cells.specs.Led.{weight_of}
 use Rattle.class_tables.specs.Tested.{ClassTables, AreTestedClasses}
-use Rattle.class_checker.specs.Endless.{AreSettled}
+use Rattle.class_checker.specs.Endless.{HaveKept, HaveSettled}
 
 -- each element is the label of a position
 pub each_reached : (c : PresentedSaid) → IsInRanges c → IsInForm c → AreConvergent LETTERS c.relations
@@ -44,21 +44,22 @@ tested_labels c v tested k kept forms =
     (none_bad_of_families (IsElement c) (claim_of c forms) monoid (HasWord c) (tested.labels forms) c.code tested.part b
     v.tables k d v.turns (λ _ h x _ l lt. turns x h l lt) kept)
 
-quotient : (c : PresentedSaid) (v : ClassTables) → IsInRanges c → IsInForm c → AreTestedClasses c v
-    → (k : KeptPositions) → AreFamiliesTested v.tables v.turns k → AreSettled c v
-    → (forms : NormalForms LETTERS c.relations)
-    → RepresentsBy (IsElement c) (HasWord c) c.code (claim_of c forms)
-quotient c v ranges in_form tested k kept settled forms =
-    represented (IsElement c) (HasWord c) c.code (claim_of c forms)
-    (λ x y. weight_of settled.0 x + weight_of settled.0 y)
-    (tested_labels c v tested k kept forms)
-    (tested.told forms settled.0 settled.1)
-    (each_reached c ranges in_form tested.converges forms)
+module _ (c : PresentedSaid) (ranges : IsInRanges c) (in_form : IsInForm c) (keeping : HaveKept c)
+    (settling : HaveSettled c) where
+  quotient : (forms : NormalForms LETTERS c.relations)
+      → RepresentsBy (IsElement c) (HasWord c) c.code (claim_of c forms)
+  quotient forms =
+      let (k, kept) = keeping.kept in
+      let (weights, settled) = settling.settled in
+      represented (IsElement c) (HasWord c) c.code (claim_of c forms)
+      (λ x y. weight_of weights x + weight_of weights y)
+      (tested_labels c keeping.tables keeping.tested k kept forms)
+      (settling.tested.told forms weights settled)
+      (each_reached c ranges in_form keeping.tested.converges forms)
 
-pub presents : (c : PresentedSaid) (v : ClassTables) → IsInRanges c → IsInForm c → AreTestedClasses c v
-    → (k : KeptPositions) × AreFamiliesTested v.tables v.turns k → AreSettled c v → Presents c
-presents c v ranges in_form tested (k, kept) settled = record {
-  part = tested.part;
-  converges = tested.converges;
-  quotient = quotient c v ranges in_form tested k kept settled;
-}
+  pub presents : Presents c
+  presents = record {
+    part = keeping.tested.part;
+    converges = keeping.tested.converges;
+    quotient = quotient;
+  }

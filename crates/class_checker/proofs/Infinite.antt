@@ -15,14 +15,12 @@ use Rattle.normal_forms.proofs.Steps.{forms as forms_of}
 use Rattle.kept_positions.specs.Presented.{AreTestedLabels}
 use Rattle.kept_positions.specs.Telling.{AreToldOrLowered}
 use Rattle.kept_positions.proofs.Tested.{predicted}
-use Rattle.kept_checker.specs.Numbers.{KeptPositions, AreFamiliesTested}
 use Rattle.presented_text.specs.Said.{PresentedSaid, IsInRanges}
 use Rattle.presented_claims.specs.Claims.{IsElement, claim_of}
 use Rattle.presented_forms.specs.Form.{IsInForm}
 use Rattle.presented_tables.specs.Tested.{HasWord}
 use Rattle.told_cells.specs.Led.{weight_of}
-use Rattle.class_tables.specs.Tested.{ClassTables, AreTestedClasses}
-use Rattle.class_checker.specs.Endless.{IsEndless, AreSettled}
+use Rattle.class_checker.specs.Endless.{IsEndless, HaveKept, HaveSettled}
 use Rattle.class_checker.proofs.Accepted.{tested_labels, each_reached}
 
 module _
@@ -111,20 +109,21 @@ powers_differ i m n lt less same =
     omega (arith, less, e, only-here LETTERS i m lt, only-here LETTERS i n lt)
 
 -- the positions of the powers of a letter are pairwise told apart
-pub infinite : (c : PresentedSaid) (v : ClassTables) → IsInRanges c → IsInForm c → AreTestedClasses c v
-    → (k : KeptPositions) × AreFamiliesTested v.tables v.turns k → AreSettled c v → IsEndless c
+pub infinite : (c : PresentedSaid) → IsInRanges c → IsInForm c → HaveKept c → HaveSettled c → IsEndless c
     → IsInfinite (HasWord c) c.code
-infinite c v ranges in_form tested (k, kept) settled (i, lt, elements) =
-    let forms = forms_of LETTERS c.relations tested.converges.oriented in
+infinite c ranges in_form keeping settling (i, lt, elements) =
+    let (k, kept) = keeping.kept in
+    let (weights, settled) = settling.settled in
+    let forms = forms_of LETTERS c.relations keeping.tested.converges.oriented in
     let claim = claim_of c forms in
-    let every = each_reached c ranges in_form tested.converges forms in
+    let every = each_reached c ranges in_form keeping.tested.converges forms in
     let at = λ (n : ℕ). every (only LETTERS i n) (elements n) in (
       λ n. (at n).0,
       λ n. (at n).1,
       λ m n less.
           told_positions (IsElement c) (HasWord c) c.code claim
-          (λ x y. weight_of settled.0 x + weight_of settled.0 y)
-          (tested_labels c v tested k kept forms) (tested.told forms settled.0 settled.1)
+          (λ x y. weight_of weights x + weight_of weights y)
+          (tested_labels c keeping.tables keeping.tested k kept forms) (settling.tested.told forms weights settled)
           every (at m).0 (at n).0 (at m).1 (at n).1
           (λ same. powers_differ i m n (omega (arith, lt, ranges.letters.0)) less
           (sym (at m).2 ∙ same ∙ (at n).2)),

@@ -4,17 +4,20 @@ ghost use Rattle.misere_theory.specs.Parts.{IsInfinite};
 ghost use Rattle.presentations.specs.declared.TheConstants.{LETTERS};
 ghost use Rattle.presentations.specs.Vectors.{only};
 ghost use Rattle.kept_checker.specs.Numbers.{KeptPositions, AreFamiliesTested};
-ghost use Rattle.presented_text.specs.Said.{IsInRanges};
+ghost use Rattle.presented_text.specs.Said.{PresentedSaid, IsInRanges};
 ghost use Rattle.presented_claims.specs.Claims.{IsElement};
 ghost use Rattle.presented_claims.specs.Presents.{Presents};
 ghost use Rattle.presented_forms.specs.Form.{IsInForm};
 ghost use Rattle.presented_tables.specs.Tested.{HasWord};
 ghost use Rattle.presented_tables.specs.Faults.{IsTrueOf};
 ghost use Rattle.class_tables.specs.Tested.{AreTestedClasses};
-ghost use Rattle.class_checker.specs.Endless.{IsEndless, AreSettled};
+ghost use Rattle.class_checker.specs.Endless.{IsEndless, AreSettled, HaveKept, HaveSettled};
 
 use crate::weights::settling_for;
-use class_tables::{ClassTables, class_tables_of, folds_for, is_unbounded, test_presented};
+use class_tables::{
+    ClassTables, ListedWords, Thresholds, class_tables_of, folds_for, is_unbounded, near_labels,
+    telling_labels, test_presented, thresholds_for,
+};
 use kept_checker::{NotFound, tested_families};
 use presented_tables::{Presented, TablesFault};
 use std::alloc::Allocator;
@@ -25,8 +28,14 @@ const MOST_KEPT: usize = 65536;
 /// How many times a position has a heap that is free at it.
 const CAP: usize = 2;
 
-/// How many letters of one kind more than relations the labels have: one number after another.
+/// How many letters of one kind the labels of kept positions have at most: one number after another.
+const REACHES: [u16; 5] = [2, 4, 8, 16, 24];
+
+/// How many letters of one kind more than relations labels have at most: one number after another.
 const MORE: [u16; 6] = [1, 2, 4, 8, 12, 16];
+
+/// How many more those of kept positions have.
+const FAR: u16 = 16;
 
 /// Whether each power of letter `i` is an element.
 fn runs_on<A: Allocator>(p: &Presented<A>, i: usize) -> bool
@@ -99,24 +108,110 @@ fn keep<A: Allocator + Copy>(
     }
 }
 
-/// Sees that the presentation is its heaps' quotient, with labels of up to `more` letters of one kind more than relations
-/// have.
-fn present_with<A: Allocator + Copy>(
+/// Sees that no position is bad beside nothing, with labels of up to `most` letters of one kind.
+fn keep_with<A: Allocator + Copy>(
     alloc: A,
     p: &Presented<A>,
-    more: u16,
+    thresholds: &Thresholds<A>,
+    most: u16,
 ) -> Result<(), TablesFault>
-    requires ranges { IsInRanges p.now }
-    requires in_form { IsInForm p.now }
-    ensures yes { IfOk result (λ _. Presents p.now) }
-    ensures infinite { IfOk result (λ _. IsEndless p.now → IsInfinite (HasWord p.now) p.now.code) }
+    ensures kept { IfOk result (λ _. HaveKept p.now) }
     ensures fault { IfErr result (λ f. IsTrueOf p.now f) }
 {
-    let folds = folds_for(alloc, p, more)?;
+    let labels = near_labels(alloc, p, thresholds, FAR, most)?;
+    let folds = folds_for(alloc, p, thresholds, labels)?;
     let tables = class_tables_of(alloc, p, folds)?;
     keep(alloc, p, &tables)?;
+    Ok(())
+}
+
+/// Sees that classes are settled, with these labels.
+fn settle_with<A: Allocator + Copy>(
+    alloc: A,
+    p: &Presented<A>,
+    thresholds: &Thresholds<A>,
+    labels: ListedWords<A>,
+) -> Result<(), TablesFault>
+    ensures settled { IfOk result (λ _. HaveSettled p.now) }
+    ensures fault { IfErr result (λ f. IsTrueOf p.now f) }
+{
+    let folds = folds_for(alloc, p, thresholds, labels)?;
+    let tables = class_tables_of(alloc, p, folds)?;
     settle(alloc, p, &tables)?;
     Ok(())
+}
+
+/// The same with few labels, and powers of up to `more` letters more than relations have; or with all labels that have no
+/// letter more often.
+fn settle_by<A: Allocator + Copy>(
+    alloc: A,
+    p: &Presented<A>,
+    thresholds: &Thresholds<A>,
+    more: u16,
+    all: bool,
+) -> Result<(), TablesFault>
+    ensures settled { IfOk result (λ _. HaveSettled p.now) }
+    ensures fault { IfErr result (λ f. IsTrueOf p.now f) }
+{
+    let labels = if all {
+        near_labels(alloc, p, thresholds, more, u16::MAX)?
+    } else {
+        telling_labels(alloc, p, thresholds, more)?
+    };
+    settle_with(alloc, p, thresholds, labels)
+}
+
+/// What it is to give up.
+fn given_up(is_limit: bool) -> TablesFault
+    ensures { (c : PresentedSaid) → IsTrueOf c result }
+{
+    if is_limit {
+        TablesFault::Limit
+    } else {
+        TablesFault::Undecided
+    }
+}
+
+/// Sees that no position is bad beside nothing.
+fn keep_by_classes<A: Allocator + Copy>(
+    alloc: A,
+    p: &Presented<A>,
+    thresholds: &Thresholds<A>,
+) -> Result<(), TablesFault>
+    ensures kept { IfOk result (λ _. HaveKept p.now) }
+    ensures fault { IfErr result (λ f. IsTrueOf p.now f) }
+{
+    let mut is_limit = true;
+    for k in 0..REACHES.len() {
+        match keep_with(alloc, p, thresholds, REACHES[k]) {
+            Ok(()) => return Ok(()),
+            Err(TablesFault::Undecided) => is_limit = false,
+            Err(TablesFault::Limit) => {}
+            Err(fault) => return Err(fault),
+        }
+    }
+    Err(given_up(is_limit))
+}
+
+/// Sees that classes are settled: first with few labels, then with all of them.
+fn settle_by_classes<A: Allocator + Copy>(
+    alloc: A,
+    p: &Presented<A>,
+    thresholds: &Thresholds<A>,
+) -> Result<(), TablesFault>
+    ensures settled { IfOk result (λ _. HaveSettled p.now) }
+    ensures fault { IfErr result (λ f. IsTrueOf p.now f) }
+{
+    let mut is_limit = true;
+    for k in 0..2 * MORE.len() {
+        match settle_by(alloc, p, thresholds, MORE[k % MORE.len()], k >= MORE.len()) {
+            Ok(()) => return Ok(()),
+            Err(TablesFault::Undecided) => is_limit = false,
+            Err(TablesFault::Limit) => {}
+            Err(fault) => return Err(fault),
+        }
+    }
+    Err(given_up(is_limit))
 }
 
 /// Sees that a presentation is the misère quotient of its heaps, by classes of its elements; and that the quotient is
@@ -125,8 +220,8 @@ fn present_with<A: Allocator + Copy>(
 /// # Errors
 ///
 /// `Letters`, `Leaves` and `Ended` are true of the presentation, and refuse it. The others say nothing of it: `Undecided`,
-/// if no folds are found by which its classes are told apart and the rule is seen to hold; `Limit`, if for all folds that
-/// are tried there are too many classes, or positions to keep; and want of memory.
+/// if no labels are found by which the rule is seen to hold, or none by which its classes are told apart; `Limit`, if in
+/// one of the two there are too many classes, or positions to keep, for all labels that are tried; and want of memory.
 pub fn present_by_classes<A: Allocator + Copy>(
     alloc: A,
     p: &Presented<A>,
@@ -138,18 +233,8 @@ pub fn present_by_classes<A: Allocator + Copy>(
     ensures fault { IfErr result (λ f. IsTrueOf p.now f) }
 {
     test_presented(p)?;
-    let mut is_limit = true;
-    for k in 0..MORE.len() {
-        match present_with(alloc, p, MORE[k]) {
-            Ok(()) => return Ok(()),
-            Err(TablesFault::Undecided) => is_limit = false,
-            Err(TablesFault::Limit) => {}
-            Err(fault) => return Err(fault),
-        }
-    }
-    if is_limit {
-        Err(TablesFault::Limit)
-    } else {
-        Err(TablesFault::Undecided)
-    }
+    let thresholds = thresholds_for(alloc, p)?;
+    keep_by_classes(alloc, p, &thresholds)?;
+    settle_by_classes(alloc, p, &thresholds)?;
+    Ok(())
 }

@@ -9,6 +9,10 @@ use Rattle.word_cells.specs.Folds.{AreFiner}
 use Rattle.class_tables.specs.Classes.{AreFolds, word_at, AreClasses, HaveFold}
 use Rattle.class_tables.specs.Tables.{ClassLists}
 
+-- No word is in the list twice: each stands where it stands first.
+pub record AreFirsts (ws : List (List ℕ)) : Type 0 where
+  pub each : (k : ℕ) → k < length ws → place ws (word_at ws k) ≡ k
+
 -- A fold that is finer still, and its classes.
 pub record FineClasses : Type 0 where
   pub folds : List (ℕ × ℕ)

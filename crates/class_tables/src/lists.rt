@@ -9,7 +9,7 @@ ghost use Rattle.class_tables.specs.Classes.{AreFolds, word_at};
 ghost use Rattle.class_tables.specs.Tables.{AreLists};
 
 use crate::classes::ListedWords;
-use crate::listing::{are_elements, classes_of, is_first, words_of};
+use crate::listing::{are_elements, classes_of, is_first};
 use crate::thresholds::{are_finer, are_folds};
 use presented_tables::{Presented, TablesFault};
 use presented_text::LetterCycle;
@@ -42,33 +42,38 @@ impl<A: Allocator> Model for ClassLists<A> {
     } };
 }
 
-/// Thresholds and periods for the letters: from which on the portion repeats; those of classes beside which each heap does
-/// the same; those of classes that each label leads to one of these; finer ones, each of whose classes each heap leads to
-/// one of those; and how many letters of one kind a label has at most.
+/// Thresholds and periods for the letters: from which on the portion repeats; and those of classes beside which each heap
+/// does the same.
+#[derive(Drop)]
+pub struct Thresholds<A: Allocator = Global> {
+    pub base: Vec<LetterCycle, A>,
+    pub tops: Vec<LetterCycle, A>,
+}
+
+/// The same, and labels; thresholds and periods of classes that each label leads to one of those; and finer ones, each of
+/// whose classes each heap leads to one of these.
 #[derive(Drop)]
 pub struct Folds<A: Allocator = Global> {
     pub base: Vec<LetterCycle, A>,
     pub tops: Vec<LetterCycle, A>,
     pub folds: Vec<LetterCycle, A>,
     pub fine: Vec<LetterCycle, A>,
-    pub labels: Vec<LetterCycle, A>,
+    pub labels: ListedWords<A>,
 }
 
 /// The most classes of a list.
-pub(crate) const MOST_CLASSES: usize = 16384;
+pub(crate) const MOST_CLASSES: usize = 65536;
 
-/// The labels: all elements that are their own folds.
-fn labels_of<A: Allocator + Copy>(
-    alloc: A,
+/// The labels, if they are seen to be elements, the first one that of nothing.
+fn tested_labels<A: Allocator>(
     p: &Presented<A>,
-    folds: &[LetterCycle],
+    list: ListedWords<A>,
 ) -> Result<ListedWords<A>, TablesFault>
     ensures some { IfOk result (λ l. 0 < length l) }
     ensures first { IfOk result (λ l. word_at l 0 ≡ zeros LETTERS) }
     ensures elements { IfOk result (λ l. (w : ℕ) → w < length l → IsElement p.now (word_at l w)) }
     ensures fault { IfErr result (λ f. IsTrueOf p.now f) }
 {
-    let list = words_of(alloc, p, folds, MOST_CLASSES)?;
     if is_first(&list) && are_elements(p, &list) {
         Ok(list)
     } else {
@@ -84,14 +89,14 @@ fn are_portion_folds<A: Allocator>(p: &Presented<A>, folds: &[LetterCycle]) -> b
     are_folds(p, folds) && are_finer(folds, p.cycles.as_slice())
 }
 
-/// The lists, with the first three folds.
+/// The lists, with the first three folds and the labels.
 pub(crate) fn lists_of<A: Allocator + Copy>(
     alloc: A,
     p: &Presented<A>,
     base: Vec<LetterCycle, A>,
     tops: Vec<LetterCycle, A>,
     folds: Vec<LetterCycle, A>,
-    labels: &[LetterCycle],
+    labels: ListedWords<A>,
 ) -> Result<ClassLists<A>, TablesFault>
     ensures lists { IfOk result (λ l. AreLists p.now l) }
     ensures fault { IfErr result (λ f. IsTrueOf p.now f) }
@@ -101,7 +106,7 @@ pub(crate) fn lists_of<A: Allocator + Copy>(
     }
     let images = classes_of(alloc, p, &tops, MOST_CLASSES)?;
     let classes = classes_of(alloc, p, &folds, MOST_CLASSES)?;
-    let labels = labels_of(alloc, p, labels)?;
+    let labels = tested_labels(p, labels)?;
     Ok(ClassLists {
         base,
         tops,

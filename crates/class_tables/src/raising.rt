@@ -8,7 +8,7 @@ use crate::classes::ListedWords;
 use crate::folding::cycle_at;
 use crate::leading::{form_of, lead};
 use crate::listing::words_of;
-use crate::lists::{Folds, MOST_CLASSES};
+use crate::lists::{Folds, MOST_CLASSES, Thresholds};
 use crate::powers::is_unbounded;
 use allocation::Memory;
 use heap_options::{Left, options};
@@ -56,7 +56,7 @@ fn least_folds<A: Allocator + Copy>(
 
 /// The folds with thresholds that are larger by `more`, but for letters that have a bounded power; and with period 1, if
 /// that is wanted.
-fn raised<A: Allocator + Copy>(
+pub(crate) fn raised<A: Allocator + Copy>(
     alloc: A,
     p: &Presented<A>,
     folds: &[LetterCycle],
@@ -244,7 +244,7 @@ fn first_in_the_way<A: Allocator>(
 }
 
 /// The most that classes, words and relations come to, multiplied, in one look.
-const MOST_LOOKS: usize = 1 << 34;
+const MOST_LOOKS: usize = 1 << 36;
 
 /// Whether so many classes, words and relations come to more.
 fn is_too_much(classes: usize, words: usize, relations: usize) -> bool {
@@ -319,13 +319,11 @@ fn heap_words<A: Allocator + Copy>(
     Ok(words)
 }
 
-/// Folds by which tables of the presentation may be made. Labels have up to `more` letters of one kind more than relations
-/// have.
-pub fn folds_for<A: Allocator + Copy>(
+/// Thresholds with which tables of the presentation may be made, whatever the labels.
+pub fn thresholds_for<A: Allocator + Copy>(
     alloc: A,
     p: &Presented<A>,
-    more: u16,
-) -> Result<Folds<A>, TablesFault>
+) -> Result<Thresholds<A>, TablesFault>
     ensures { IfErr result (λ f. IsTrueOf p.now f) }
 {
     let mut base = least_folds(alloc, p)?;
@@ -337,15 +335,22 @@ pub fn folds_for<A: Allocator + Copy>(
     multiply(p, &mut base, &near);
     let mut tops = raised(alloc, p, &base, 0, false)?;
     raise(alloc, p, &base, &mut tops, &heap_words(alloc, p, true)?)?;
-    let labels = raised(alloc, p, &base, more, true)?;
-    let mut folds = raised(alloc, p, &tops, more, false)?;
-    raise(
-        alloc,
-        p,
-        &tops,
-        &mut folds,
-        &words_of(alloc, p, &labels, MOST_CLASSES)?,
-    )?;
+    Ok(Thresholds { base, tops })
+}
+
+/// Folds by which tables of the presentation may be made, with these labels.
+pub fn folds_for<A: Allocator + Copy>(
+    alloc: A,
+    p: &Presented<A>,
+    thresholds: &Thresholds<A>,
+    labels: ListedWords<A>,
+) -> Result<Folds<A>, TablesFault>
+    ensures { IfErr result (λ f. IsTrueOf p.now f) }
+{
+    let base = raised(alloc, p, &thresholds.base, 0, false)?;
+    let tops = raised(alloc, p, &thresholds.tops, 0, false)?;
+    let mut folds = raised(alloc, p, &tops, 0, false)?;
+    raise(alloc, p, &tops, &mut folds, &labels)?;
     let mut fine = raised(alloc, p, &folds, 0, false)?;
     raise(alloc, p, &folds, &mut fine, &heap_words(alloc, p, false)?)?;
     Ok(Folds {

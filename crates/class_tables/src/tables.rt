@@ -163,13 +163,16 @@ fn label_tables<A: Allocator + Copy>(
     })
 }
 
+/// The most that classes and labels come to, multiplied: as many images are written down.
+const MOST_IMAGES: u64 = 1 << 28;
+
 /// The most that classes, labels and relations come to, multiplied: minutes of work.
-const MOST_WORK: u64 = 1 << 34;
+const MOST_WORK: u64 = 1 << 36;
 
 /// Whether what the tables would take is more than that.
 fn is_too_much(classes: usize, labels: usize, relations: usize) -> bool {
     let images = (classes as u64).saturating_mul(labels as u64);
-    images.saturating_mul((relations as u64).saturating_add(1)) > MOST_WORK
+    images > MOST_IMAGES || images.saturating_mul((relations as u64).saturating_add(1)) > MOST_WORK
 }
 
 /// The tables of a presentation by classes, with such folds.
@@ -196,7 +199,7 @@ pub fn class_tables_of<A: Allocator + Copy>(
         fine,
         labels,
     } = given;
-    let lists = lists_of(alloc, p, base, tops, folds, &labels)?;
+    let lists = lists_of(alloc, p, base, tops, folds, labels)?;
     if is_too_much(
         lists.classes.len(),
         lists.labels.len(),

@@ -7,17 +7,17 @@ ghost use Rattle.presented_claims.specs.Claims.{cycled};
 ghost use Rattle.word_cells.specs.Folds.{AreFiner};
 ghost use Rattle.class_tables.specs.Classes.{AreFolds, word_at};
 ghost use Rattle.class_tables.specs.Tables.{AreLists};
-ghost use Rattle.class_tables.specs.Turns.{AreFine, DoesTake, IsTurned, AreTurned};
+ghost use Rattle.class_tables.specs.Turns.{AreFine, AreFirsts, DoesTake, IsTurned, AreTurned};
 
 use crate::beside::{heap_word, led_fold};
 use crate::classes::ListedWords;
 use crate::listing::classes_of;
 use crate::lists::{ClassLists, MOST_CLASSES};
+use crate::placing::{are_firsts, first_place};
 use crate::rows::size_at;
 use crate::thresholds::{are_finer, are_folds};
 use allocation::Memory;
 use kept_checker::{ClassTurns, LabelTables};
-use normal_forms::{Exponents, is_word};
 use presented_tables::{HeapNumbers, Presented, TablesFault, cycled_word};
 use presented_text::LetterCycle;
 use std::alloc::{Allocator, Global};
@@ -63,19 +63,6 @@ fn fine_classes<A: Allocator + Copy>(
     Ok(FineClasses { folds, classes })
 }
 
-/// The first place of the word in the list, if it is there.
-fn first_place<A: Allocator>(list: &ListedWords<A>, word: &Exponents) -> Option<usize>
-    ensures { IfSome result (λ k. (k < length list.now) × (place list.now word.now ≡ k) × (word_at list.now k ≡ word.now)) }
-{
-    for k in 0..list.len() {
-        let there = list.get(k)?;
-        if is_word(there, word) {
-            return Some(k);
-        }
-    }
-    None
-}
-
 /// The class to which the heap of number `g` takes the elements of fine class `k`.
 fn taken<A: Allocator>(
     p: &Presented<A>,
@@ -87,6 +74,7 @@ fn taken<A: Allocator>(
 ) -> Option<usize>
     requires lists { AreLists p.now l.now }
     requires fine { AreFine p.now l.now f.now }
+    requires firsts { AreFirsts l.now.classes }
     ensures { IfSome result (λ z. DoesTake p.now l.now s.now f.now k g z) }
 {
     let class = f.classes.get(k)?;
@@ -97,6 +85,7 @@ fn taken<A: Allocator>(
 
 /// The class of the elements of fine class `k`.
 fn class_of<A: Allocator>(l: &ClassLists<A>, f: &FineClasses<A>, k: usize) -> Option<usize>
+    requires { AreFirsts l.now.classes }
     ensures { IfSome result (λ x. place l.now.classes (cycled l.now.folds (word_at f.now.classes k)) ≡ x) }
 {
     let class = f.classes.get(k)?;
@@ -120,6 +109,7 @@ fn takes<A: Allocator + Copy>(
 ) -> Result<Vec<(u32, u32), A>, TablesFault>
     requires lists { AreLists p.now l.now }
     requires fine { AreFine p.now l.now f.now }
+    requires firsts { AreFirsts l.now.classes }
     ensures fault { IfErr result (λ f. IsTrueOf p.now f) }
 {
     let mut pairs = Vec::new(alloc);
@@ -183,6 +173,7 @@ fn made<A: Allocator + Copy>(
 ) -> Result<ClassTurns<A>, TablesFault>
     requires lists { AreLists p.now l.now }
     requires fine { AreFine p.now l.now f.now }
+    requires firsts { AreFirsts l.now.classes }
     ensures fault { IfErr result (λ f. IsTrueOf p.now f) }
 {
     let mut turns = ClassTurns {
@@ -232,6 +223,7 @@ fn turned<A: Allocator>(
 ) -> Option<bool>
     requires lists { AreLists p.now l.now }
     requires fine { AreFine p.now l.now f.now }
+    requires firsts { AreFirsts l.now.classes }
     ensures { IfSome result (λ b. IsTrue b → IsTurned p.now l.now s.now f.now t.now u.now k g) }
 {
     let z = taken(p, l, s, f, k, g)?;
@@ -252,6 +244,7 @@ fn is_turned<A: Allocator>(
 ) -> bool
     requires lists { AreLists p.now l.now }
     requires fine { AreFine p.now l.now f.now }
+    requires firsts { AreFirsts l.now.classes }
     ensures { IsTrue result → IsTurned p.now l.now s.now f.now t.now u.now k g }
 {
     match turned(p, l, s, f, t, u, k, g) {
@@ -272,6 +265,7 @@ fn are_heaps_turned<A: Allocator>(
 ) -> bool
     requires lists { AreLists p.now l.now }
     requires fine { AreFine p.now l.now f.now }
+    requires firsts { AreFirsts l.now.classes }
     ensures { IsTrue result → (g : ℕ) → g < t.now.heaps → IsTurned p.now l.now s.now f.now t.now u.now k g }
 {
     for g in 0..t.heaps {
@@ -293,6 +287,7 @@ fn are_turned<A: Allocator>(
 ) -> bool
     requires lists { AreLists p.now l.now }
     requires fine { AreFine p.now l.now f.now }
+    requires firsts { AreFirsts l.now.classes }
     ensures { IsTrue result → (k g : ℕ) → k < length f.now.classes → g < t.now.heaps
         → IsTurned p.now l.now s.now f.now t.now u.now k g }
 {
@@ -317,6 +312,9 @@ pub(crate) fn turns_of<A: Allocator + Copy>(
     ensures turned { IfOk result (λ u. AreTurned p.now l.now s.now t.now u) }
     ensures fault { IfErr result (λ f. IsTrueOf p.now f) }
 {
+    if !are_firsts(&l.classes) {
+        return Err(TablesFault::Undecided);
+    }
     let fine = fine_classes(alloc, p, l, fine)?;
     let turns = made(alloc, p, l, s, &fine)?;
     if are_turned(p, l, s, &fine, t, &turns) {

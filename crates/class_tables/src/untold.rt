@@ -14,7 +14,7 @@ use std::alloc::{Allocator, Global};
 const MOST_PAIRS: usize = 1 << 20;
 
 /// The most looks at pairs beside labels that are taken, times relations.
-const MOST_LOOKS: usize = 1 << 29;
+const MOST_LOOKS: usize = 1 << 32;
 
 /// The marks of classes, and the pairs of them that may not be told apart.
 #[derive(Drop)]

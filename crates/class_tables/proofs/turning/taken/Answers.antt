@@ -4,7 +4,7 @@ use Rattle.presented_tables.specs.Elements.{place}
 use Rattle.presented_tables.proofs.Mapped.{if-some}
 use Rattle.class_tables.specs.Classes.{word_at}
 use Rattle.class_tables.specs.Tables.{ClassLists}
-use Rattle.class_tables.specs.Turns.{FineClasses, DoesTake}
+use Rattle.class_tables.specs.Turns.{FineClasses, AreFirsts, DoesTake}
 use Rattle.class_tables.proofs.Imaged.{take-is}
 use Rattle.class_tables.proofs.turning.taken.Goals as goal
 
@@ -13,6 +13,9 @@ led_fold-requires-clause-class g c =
     let at = subst (λ (v : FineClasses). (c.args.k < length v.classes) × (c.in_ok-class.class.now ≡ word_at v.classes c.args.k))
     c.f.view_is c.in_ok-class.ensures in
     subst (IsElement c.args.p.now) (sym at.1) (c.requires.fine.classes.elements c.args.k at.0)
+
+pub first_place-requires : goal.first_place-requires
+first_place-requires g c = subst (λ (v : ClassLists). AreFirsts v.classes) (sym c.l.view_is) c.requires.firsts
 
 pub returns : goal.returns
 returns g c =

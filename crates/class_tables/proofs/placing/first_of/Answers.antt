@@ -1,9 +1,9 @@
-use Rattle.std.proofs.Common.{◌≡◌, ◌≢◌, sym, ◌∙◌, arith}
+use Rattle.std.proofs.Common.{◌≢◌, sym, ◌∙◌}
 use Rattle.std.proofs.lemmas.Bool.{false≢true}
 use Rattle.presented_tables.proofs.Below.{below}
 use Rattle.class_tables.specs.Classes.{word_at}
 use Rattle.class_tables.proofs.Firsts.{place-at}
-use Rattle.class_tables.proofs.turning.first_place.Goals as goal
+use Rattle.class_tables.proofs.placing.first_of.Goals as goal
 
 pub returns-then-is_word : goal.returns-then-is_word
 returns-then-is_word g c =
