@@ -37,10 +37,10 @@ const MOST_KEPT: usize = 65536;
 /// How many elements are written down for each relation, and how many at most.
 const ELEMENTS_EACH: usize = 64;
 
-const MOST_ELEMENTS: usize = 16384;
+const MOST_ELEMENTS: usize = 32768;
 
 /// The most that elements, letters and relations come to then, multiplied.
-const MOST_LOOKS: usize = 1 << 27;
+const MOST_LOOKS: usize = 1 << 28;
 
 /// How many elements are written down.
 fn known_elements(relations: usize, letters: usize) -> usize {
