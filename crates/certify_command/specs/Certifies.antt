@@ -1,4 +1,4 @@
--- What is said of a table that somebody brings. This project's own.
+-- What is said of a table, or of a presentation, that somebody brings. This project's own.
 use Rattle.std.specs.Prelude.{◌≡◌, ◌≢◌, ◌<◌, ◌⊎◌, ℕ, Bool, true, false, List, ◌++◌, length, Option, Some, None, codes, decimal}
 use Rattle.misere_theory.specs.Certificates.{Certificate}
 use Rattle.answers.specs.ByteVerdicts.{refused}
@@ -14,6 +14,8 @@ use Rattle.own_quotients.specs.Certified.{HasCertified, IsFaultOf}
 use Rattle.own_quotients.specs.declared.fault.CertifyFault.{CertifyFault}
 use Rattle.own_quotients.specs.declared.fault.CertifyFault.TheVariants.{NoIdentity, NotCommuting, Unreached, NotAssociating, Alike, Refused, NoDraft}
 use Rattle.own_quotients.specs.declared.fault.CertifyFault.TheVariants as fault
+use Rattle.given_quotients.specs.Told.{BeginsPresented}
+use Rattle.certify_command.specs.Presentations.{CertifiesPresented}
 use Rattle.certify_command.specs.declared.given.TheConstants.{LARGEST_TABLE}
 
 -- ---- what is said
@@ -87,15 +89,20 @@ abbrev pub TellsBytes : List ℕ → ℕ → List ℕ → ℕ → Type 0
 TellsBytes bytes limit text status =
     (status ≡ 0 → AreCertified bytes text) × (status ≢ 0 → AreNotCertified bytes limit text status)
 
--- what is said of bytes, and whether it succeeds
+-- what is said of the bytes of a table, and whether it succeeds
 abbrev pub CertifiesBytes : List ℕ → ℕ → List ℕ → Bool → Type 0
 CertifiesBytes bytes limit text true = AreCertified bytes text
 CertifiesBytes bytes limit text false = (status : ℕ) × AreNotCertified bytes limit text status
 
+-- What is said of bytes that begin as a presentation does, and of all others, which are read as a table.
+pub record CertifiesText (bytes : List ℕ) (limit : ℕ) (text : List ℕ) (succeeds : Bool) : Type 0 where
+  pub presented : BeginsPresented bytes → CertifiesPresented bytes text succeeds
+  pub table : (BeginsPresented bytes → ⊥) → CertifiesBytes bytes limit text succeeds
+
 -- the same of the bytes that are given
 abbrev pub Certifies : (List ℕ → Type 0) → ℕ → List ℕ → Bool → Type 0
 Certifies Are limit text succeeds = (bytes : List ℕ) × Are bytes
-    × CertifiesBytes bytes limit text succeeds
+    × CertifiesText bytes limit text succeeds
 
 -- ---- why nothing is said
 

@@ -1,1 +1,2 @@
+pub mod Presentations
 pub mod Certifies

@@ -1,13 +1,17 @@
-//! `certify`: what is said of a table.
+//! `certify`: what is said of a table, or of a presentation.
 ghost use Rattle.std.specs.Prelude.{◌≡◌, ℕ, IfErr, IfOk, List, false, is_none, is_some, option_map};
 ghost use Rattle.verdict_texts.specs.Streams.{AreKnownAs};
 ghost use Rattle.check_command.specs.Checks.{AreGiven, failed};
-ghost use Rattle.certify_command.specs.Certifies.{Certifies, CertifiesBytes, IsTableCause, TellsBytes};
+ghost use Rattle.certify_command.specs.Certifies.{Certifies, CertifiesBytes, CertifiesText, IsTableCause, TellsBytes};
 
 use crate::given::given_bytes;
+use crate::making::Making;
+use crate::presented::presented_said;
 use crate::telling::{ToldTable, certify_bytes};
+use allocation::Memory;
 use command_results::{Said, Stop};
 use folders::Folder;
+use given_quotients::begins_presented;
 use std::alloc::Global;
 use streams::Source;
 
@@ -26,8 +30,19 @@ fn said(told: ToldTable) -> Said
     }
 }
 
-/// Certifies the table in the file, or on standard input where no file is named. Whichever of the
-/// two isn't read is left alone.
+/// What is said of the bytes: of a presentation, or else of a table.
+fn said_of_bytes(alloc: Global, bytes: &[u8], limit: u32) -> Result<Said, Memory>
+    ensures { IfOk result (λ s. CertifiesText bytes.now limit s.text.items s.succeeds) }
+{
+    if begins_presented(bytes) {
+        return presented_said(&Making, alloc, bytes, limit);
+    }
+    let told = certify_bytes(alloc, bytes, limit)?;
+    Ok(said(told))
+}
+
+/// Certifies the table in the file, or the finite quotient that is presented there, by the first word; or on standard
+/// input where no file is named. Whichever of the two isn't read is left alone.
 pub fn certify<'a, F: Folder, S: Source>(
     alloc: Global,
     file: Option<&'a str>,
@@ -48,6 +63,6 @@ pub fn certify<'a, F: Folder, S: Source>(
         → folder.new ≡ folder.old }
 {
     let bytes = given_bytes(alloc, file, folder, input)?;
-    let told = certify_bytes(alloc, &bytes, limit)?;
-    Ok(said(told))
+    let said = said_of_bytes(alloc, &bytes, limit)?;
+    Ok(said)
 }
