@@ -11,7 +11,7 @@ complete -c misere -n __fish_use_subcommand -a show -d 'Check a certificate, and
 complete -c misere -n __fish_use_subcommand -a describe -d 'Check a certificate, and print its quotient by generators and relations'
 complete -c misere -n __fish_use_subcommand -a play -d 'Check a certificate, and print a winning move in a position'
 complete -c misere -n __fish_use_subcommand -a compare -d 'Check two certificates, and tell whether their quotients are isomorphic'
-complete -c misere -n __fish_use_subcommand -a certify -d 'Make a certificate of a quotient that is given by its table, and print it once it is checked'
+complete -c misere -n __fish_use_subcommand -a certify -d 'Make a certificate of a quotient that a table or a presentation gives, and print it once it is checked'
 complete -c misere -n __fish_use_subcommand -a explain -d 'Say why a text is no certificate\'s, no code or no position, and where'
 complete -c misere -n __fish_use_subcommand -a present -d 'Print the table of the commutative monoid that relations present'
 complete -c misere -n __fish_use_subcommand -a catalogue -d 'List the certificates in a catalogue, print one, or add to them'

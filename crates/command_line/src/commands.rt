@@ -232,7 +232,7 @@ fn certify_command<'a>(alloc: Global) -> Result<Command<'a>, AllocError>
     ensures { IfOk result (λ c. app_of c ≡ certify) }
 {
     let about =
-        "Make a certificate of a quotient that is given by its table, and print it once it is checked";
+        "Make a certificate of a quotient that a table or a presentation gives, and print it once it is checked";
     let file = "The file of the quotient; as - standard input";
     let made = Ok(command(alloc, "certify", about));
     let made = with_arg(made, needed(alloc, "file", "FILE", file));
