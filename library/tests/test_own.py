@@ -71,7 +71,9 @@ class Own(unittest.TestCase):
             self.assertEqual(str(refused.exception), said)
 
     def test_the_call_says_what_the_program_says(self) -> None:
-        blocks = [it.splitlines() for it in (top / "tests/certifying.rows").read_text().split("\n\n")]
+        # (the call takes tables alone)
+        of_tables = (top / "tests/certifying.rows").read_text().partition("\n== presentations\n")[0]
+        blocks = [it.splitlines() for it in of_tables.split("\n\n")]
         refused = [it for it in blocks if "$ certify -" in it and "= 1" in it]
         self.assertGreater(len(refused), 8)
         for block in refused:
