@@ -70,7 +70,7 @@ fn a_presentation_is_told_and_has_words() {
         assert_eq!(quotient.value(heaps).as_deref(), Ok(word));
     }
     assert_eq!((quotient.value(&[13]), quotient.value(&[0])), (Err(Refusal::BEYOND), Err(Refusal::NOT_A_HEAP)));
-    assert!(quotient.describe(InfiniteOutput::Description).unwrap().starts_with("Q_12(0.404) = < a,b,c,d,e | a^2 = 1"));
+    assert!(quotient.describe(InfiniteOutput::Description).unwrap().starts_with("Q_12(0.404) = < a,b,c,d,e | a^2=1"));
     let kayles = infinite("0.77.mqp");
     assert_eq!((kayles.last_heap(), kayles.order(), kayles.value(&[1000]).as_deref()), (None, Ok(Some(40)), Ok("ab^2")));
     assert_eq!(infinite("0.26.mqw").value(&[1]), Err(Refusal(16)));
