@@ -18,13 +18,18 @@ import {explained} from "../terms.js";
  * @property {(string | null)[]} words for each heap its word, or null if it is left out
  */
 
+/** What the portion of an infinite quotient has besides the words that are written. */
+const REPEATS =
+    "The portion repeats by the cycles below, and these are its words in the first period of each. Where c has the " +
+    "cycle 3:2, exponents of c repeat from 3 on with period 2: then c⁶ is in the portion exactly if c⁴ is.";
+
 /** The columns of a table without a period, and the most. */
 const [COLUMNS, MOST_COLUMNS] = [12, 24];
 
 /** @param {Quotient} quotient */
 export function quotientSection(quotient) {
-  const {code, heaps, period, generators, relations, portion} = quotient;
-  const last = period ? null : heaps;
+  const {code, heaps, period, order, generators, relations, portion} = quotient;
+  const last = period ? null : heaps, isInfinite = order === null;
   const equations = relations.map((sides) => relation(sides.join("=")));
   return make(
       "section", {}, make("h2", {}, "The quotient"),
@@ -34,8 +39,8 @@ export function quotientSection(quotient) {
           " ⟩"),
       make(
           "p", {class: "presentation", id: "portion"}, ofGame("𝒫", last), " = { ", ...separated(portion.map(word)),
-          " }"),
-      factTable(quotient));
+          isInfinite ? ", .. }" : " }"),
+      isInfinite ? make("p", {class: "key", id: "repeats"}, REPEATS) : "", factTable(quotient));
 }
 
 /** @param {Quotient} quotient */

@@ -99,6 +99,8 @@ def presented(it, program, steps, file):
     judged(it, lambda: it.one("#file").send_keys(str(file)), ("infinite ",))
     facts = it.text("#facts")
     steps.expect("it has its order and its relations", "infinite" in facts and "9" in facts, facts)
+    portion = it.text("#portion") + it.text("#repeats")
+    steps.expect("its portion goes on by its cycles", ".." in portion and "by the cycles" in portion, portion)
     told = answered(it, "3 3 5")
     steps.expect("a position has a word", "N: won by" in told and "Its element is b." in told, told)
     for field, heaps in {"#one": "3 3", "#other": "0"}.items():
