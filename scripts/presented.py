@@ -239,7 +239,10 @@ def with_cycle(chance: random.Random, given: Presentation) -> Presentation:
 
 def with_word(chance: random.Random, given: Presentation) -> Presentation:
     at = chance.randrange(len(given.words))
-    new = tweaked(chance, given.words[at] or given.portion[0]) if chance.random() < 0.5 else chance.choice(given.words)
+    if chance.random() < 0.5:
+        new: Word | None = tweaked(chance, given.words[at] or given.portion[0])
+    else:
+        new = chance.choice(given.words)
     return replace(given, words=with_item(given.words, at, new))
 
 

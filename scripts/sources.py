@@ -137,13 +137,16 @@ class Sources:
             return None
         return record if record.made == sum_of_file(self.made_of(name)) else None
 
+    def built_below(self, program: str) -> dict[str, str]:
+        """The sums of the libraries that stand below a program now."""
+        return {it: sum_of_file(self.made_of(it)) for it in self.below(program)}
+
     def write(self, name: str, sources: str) -> None:
         """Writes beside what was built of which sources it was."""
         record = Record(sources, sum_of_file(self.made_of(name)))
         if name in self.programs:
-            below = self.below(name)
-            records = {it: self.read(it) for it in below}
-            record.over = {it: sum_of_file(self.made_of(it)) for it in below}
+            records = {it: self.read(it) for it in self.below(name)}
+            record.over = self.built_below(name)
             record.all = sum_of_all([*((it.sources if it else "") for it in records.values()), sources])
         self.put(name, record)
 
@@ -198,7 +201,7 @@ class Sources:
         if stands := self.is_newer(program):
             for name in sums:
                 self.stands(name)
-            told = Record(sums[program], sum_of_file(file), sum_of_all(sums.values()))
+            told = Record(sums[program], sum_of_file(file), sum_of_all(sums.values()), self.built_below(program))
             self.put(program, told)
         return stands
 

@@ -28,8 +28,9 @@ const MOST_KEPT: usize = 65536;
 /// How many times a position has a heap that is free at it.
 const CAP: usize = 2;
 
-/// How many letters of one kind the labels of kept positions have at most: one number after another.
-const REACHES: [u16; 5] = [2, 4, 8, 16, 24];
+/// How many letters of one kind the labels of kept positions have at most: one number after another. With four the rule is
+/// seen to hold of nearly all quotients that are known; two are for those where four are too many.
+const REACHES: [u16; 5] = [4, 8, 16, 24, 2];
 
 /// How many letters of one kind more than relations labels have at most: one number after another.
 const MORE: [u16; 6] = [1, 2, 4, 8, 12, 16];
@@ -193,7 +194,7 @@ fn keep_by_classes<A: Allocator + Copy>(
     Err(given_up(is_limit))
 }
 
-/// Sees that classes are settled: first with few labels, then with all of them.
+/// Sees that classes are settled: for each number of letters more first with few labels, then with all of them.
 fn settle_by_classes<A: Allocator + Copy>(
     alloc: A,
     p: &Presented<A>,
@@ -204,7 +205,7 @@ fn settle_by_classes<A: Allocator + Copy>(
 {
     let mut is_limit = true;
     for k in 0..2 * MORE.len() {
-        match settle_by(alloc, p, thresholds, MORE[k % MORE.len()], k >= MORE.len()) {
+        match settle_by(alloc, p, thresholds, MORE[k / 2], k % 2 == 1) {
             Ok(()) => return Ok(()),
             Err(TablesFault::Undecided) => is_limit = false,
             Err(TablesFault::Limit) => {}

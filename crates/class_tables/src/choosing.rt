@@ -70,6 +70,18 @@ fn add_powers<A: Allocator>(
     Ok(())
 }
 
+/// The words of the portion, to be found by halves, and that of nothing, which is in none.
+fn portion_words<A: Allocator + Copy>(
+    alloc: A,
+    p: &Presented<A>,
+) -> Result<ListedWords<A>, Memory> {
+    let mut list = ListedWords::new(alloc)?;
+    for word in p.portion.iter() {
+        list.add(*word)?;
+    }
+    Ok(list)
+}
+
 /// Those of the labels that tell elements apart which the ones before leave together.
 fn splitting_labels<A: Allocator + Copy>(
     alloc: A,
@@ -78,6 +90,7 @@ fn splitting_labels<A: Allocator + Copy>(
     labels: &ListedWords<A>,
 ) -> Result<ListedWords<A>, Memory> {
     let mut groups = Groups::new(alloc, elements.len())?;
+    let portion = portion_words(alloc, p)?;
     let mut list = ListedWords::new(alloc)?;
     for w in 0..labels.len() {
         if elements.len() <= groups.len() {
@@ -86,7 +99,7 @@ fn splitting_labels<A: Allocator + Copy>(
         let Some(word) = labels.get(w) else {
             break;
         };
-        if groups.split(alloc, p, elements, word)? {
+        if groups.split(alloc, p, &portion, elements, word)? {
             list.add(*word)?;
         }
     }

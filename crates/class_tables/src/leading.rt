@@ -131,3 +131,22 @@ pub(crate) fn lead<A: Allocator>(
     }
     Some(Led { to, turns })
 }
+
+/// Whether the word leads the class somewhere, as [`lead`] says. Nothing is promised.
+pub(crate) fn leads<A: Allocator>(
+    p: &Presented<A>,
+    tops: &[LetterCycle],
+    folds: &[LetterCycle],
+    a: &Exponents,
+    z: &Exponents,
+) -> bool {
+    let Some(to) = form_of(p, a, z) else {
+        return false;
+    };
+    for j in 0..folds.len() {
+        if j < LETTERS && turn_at(p, tops, folds, &[], a, &to, j).is_none() {
+            return false;
+        }
+    }
+    true
+}

@@ -8,7 +8,7 @@ ghost use Rattle.word_cells.specs.Folds.{HavePeriods};
 ghost use Rattle.class_tables.specs.Classes.{word_at, IsThere, AreClasses};
 
 use crate::classes::ListedWords;
-use normal_forms::{Exponents, is_word, with_letter};
+use normal_forms::{Exponents, Rule, is_word, with_letter};
 use presentations::LETTERS;
 use presented_tables::{Presented, TablesFault, cycled_word, is_in};
 use presented_text::LetterCycle;
@@ -28,7 +28,26 @@ fn is_class<A: Allocator>(p: &Presented<A>, folds: &[LetterCycle], word: &Expone
     is_element(p, word) && is_word(&cycled_word(folds, word), word)
 }
 
-/// Adds the classes to which letters lead from word `x`.
+/// Whether the first word is in the second one.
+fn divides(left: &Exponents, word: &Exponents) -> bool {
+    (0..LETTERS).all(|k| left[k] <= word[k])
+}
+
+/// Whether a word is still an element with letter `i` once more, which the word has here: only left words with all of that
+/// letter can be in it. Nothing is promised.
+fn stays_element(rules: &[Rule], word: &Exponents, i: usize) -> bool {
+    if i >= LETTERS {
+        return false;
+    }
+    for rule in rules {
+        if rule.left[i] == word[i] && divides(&rule.left, word) {
+            return false;
+        }
+    }
+    true
+}
+
+/// Adds the classes to which letters lead from word `x`, which is an element.
 fn add_more<A: Allocator + Copy>(
     p: &Presented<A>,
     folds: &[LetterCycle],
@@ -43,7 +62,9 @@ fn add_more<A: Allocator + Copy>(
     };
     for i in 0..p.letters.len() {
         if let Some(more) = with_letter(&word, i) {
-            if is_class(p, folds, &more) {
+            if stays_element(p.basis.rules(), &more, i)
+                && is_word(&cycled_word(folds, &more), &more)
+            {
                 list.add(more)?;
             }
         }

@@ -6,7 +6,7 @@ ghost use Rattle.presented_tables.specs.Faults.{IsTrueOf};
 use crate::beside::heap_word;
 use crate::classes::ListedWords;
 use crate::folding::cycle_at;
-use crate::leading::{form_of, lead};
+use crate::leading::{form_of, leads};
 use crate::listing::words_of;
 use crate::lists::{Folds, MOST_CLASSES, Thresholds};
 use crate::powers::is_unbounded;
@@ -193,7 +193,7 @@ fn letter_in_the_way<A: Allocator>(
     a: &Exponents,
     z: &Exponents,
 ) -> Option<usize> {
-    if lead(p, tops, folds, &[], a, z).is_some() {
+    if leads(p, tops, folds, a, z) {
         return None;
     }
     for j in 0..folds.len() {
@@ -204,7 +204,7 @@ fn letter_in_the_way<A: Allocator>(
                     alone[i] = start_of(folds, i).saturating_sub(1).min(a[i]);
                 }
             }
-            if lead(p, tops, folds, &[], &alone, z).is_none() {
+            if !leads(p, tops, folds, &alone, z) {
                 return Some(j);
             }
         }
@@ -222,25 +222,53 @@ fn first_running(folds: &[LetterCycle], a: &Exponents) -> Option<usize> {
     None
 }
 
-/// A letter of one of the classes that isn't led to whole periods by one of the words.
+/// A letter of the class that isn't led to whole periods by one of the words.
+fn first_beside<A: Allocator>(
+    p: &Presented<A>,
+    tops: &[LetterCycle],
+    folds: &[LetterCycle],
+    a: &Exponents,
+    words: &ListedWords<A>,
+) -> Option<usize> {
+    for w in 0..words.len() {
+        if let Some(j) = letter_in_the_way(p, tops, folds, a, words.get(w)?) {
+            return Some(j);
+        }
+    }
+    None
+}
+
+/// Whether the class is among those that were led by all words. The word of nothing is in each list.
+fn is_passed<A: Allocator>(passed: &ListedWords<A>, a: &Exponents) -> bool {
+    match passed.find(a) {
+        Some(k) => 0 < k,
+        None => false,
+    }
+}
+
+/// A letter of one of the classes that isn't led to whole periods by one of the words. Classes that all words lead are
+/// passed: they are when thresholds are larger, too.
 fn first_in_the_way<A: Allocator>(
     p: &Presented<A>,
     tops: &[LetterCycle],
     folds: &[LetterCycle],
     classes: &ListedWords<A>,
     words: &ListedWords<A>,
-) -> Option<usize> {
+    passed: &mut ListedWords<A>,
+) -> Result<Option<usize>, Memory> {
     for x in 0..classes.len() {
-        let a = classes.get(x)?;
-        if first_running(folds, a).is_some() {
-            for w in 0..words.len() {
-                if let Some(j) = letter_in_the_way(p, tops, folds, a, words.get(w)?) {
-                    return Some(j);
-                }
+        let Some(a) = classes.get(x) else {
+            return Ok(None);
+        };
+        if first_running(folds, a).is_some() && !is_passed(passed, a) {
+            let found = first_beside(p, tops, folds, a, words);
+            if found.is_some() {
+                return Ok(found);
             }
+            passed.add(*a)?;
         }
     }
-    None
+    Ok(None)
 }
 
 /// The most that classes, words and relations come to, multiplied, in one look.
@@ -264,12 +292,13 @@ fn raise<A: Allocator + Copy>(
 ) -> Result<(), TablesFault>
     ensures { IfErr result (λ f. IsTrueOf p.now f) }
 {
+    let mut passed = ListedWords::new(alloc)?;
     for _ in 0..MOST_RAISED {
         let classes = words_of(alloc, p, folds, MOST_CLASSES)?;
         if is_too_much(classes.len(), words.len(), p.basis.rules().len()) {
             return Err(TablesFault::Limit);
         }
-        match first_in_the_way(p, tops, folds, &classes, words) {
+        match first_in_the_way(p, tops, folds, &classes, words, &mut passed)? {
             Some(j) => {
                 if j < folds.len() {
                     folds[j] = LetterCycle {

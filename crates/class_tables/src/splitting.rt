@@ -3,7 +3,7 @@ use crate::classes::ListedWords;
 use crate::leading::form_of;
 use allocation::Memory;
 use normal_forms::Exponents;
-use presented_tables::{Presented, in_portion};
+use presented_tables::{Presented, cycled_word};
 use std::alloc::{Allocator, Global};
 
 /// Number `k` of the list, 0 if there is none.
@@ -56,13 +56,14 @@ impl<A: Allocator + Copy> Groups<A> {
         &self,
         alloc: A,
         p: &Presented<B>,
+        portion: &ListedWords<B>,
         elements: &ListedWords<B>,
         label: &Exponents,
     ) -> Result<Vec<bool, A>, Memory> {
         let mut marks = Vec::new(alloc);
         for x in 0..elements.len() {
             let group = read(&self.of, x) as usize;
-            marks.push(1 < read(&self.sizes, group) && says(p, elements, x, label))?;
+            marks.push(1 < read(&self.sizes, group) && says(p, portion, elements, x, label))?;
         }
         Ok(marks)
     }
@@ -102,11 +103,12 @@ impl<A: Allocator + Copy> Groups<A> {
         &mut self,
         alloc: A,
         p: &Presented<B>,
+        portion: &ListedWords<B>,
         elements: &ListedWords<B>,
         label: &Exponents,
     ) -> Result<bool, Memory> {
         let before = self.sizes.len();
-        let marks = self.marks(alloc, p, elements, label)?;
+        let marks = self.marks(alloc, p, portion, elements, label)?;
         let counts = self.counts(alloc, &marks)?;
         let made = self.divide(alloc, &counts)?;
         for x in 0..marks.len() {
@@ -129,6 +131,7 @@ impl<A: Allocator> Groups<A> {
 /// Whether element `x` is in the portion beside the label.
 fn says<A: Allocator>(
     p: &Presented<A>,
+    portion: &ListedWords<A>,
     elements: &ListedWords<A>,
     x: usize,
     label: &Exponents,
@@ -137,7 +140,7 @@ fn says<A: Allocator>(
         return false;
     };
     match form_of(p, element, label) {
-        Some(form) => in_portion(p, &form),
+        Some(form) => portion.find(&cycled_word(&p.cycles, &form)).is_some(),
         None => false,
     }
 }

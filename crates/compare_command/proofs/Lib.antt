@@ -1,3 +1,4 @@
 mod Found
 mod Images
+mod Isomorphic
 mod Joins

@@ -8,7 +8,9 @@ use Rattle.check_command.specs.Checks.{Failed, IsGivenCause}
 use Rattle.given_quotients.specs.Given.{Gives, Refuses}
 use Rattle.given_quotients.specs.declared.giving.Quotient.{Quotient as Found}
 use Rattle.command_results.specs.declared.stop.Stop.{Stop}
-use Rattle.compare_command.specs.Lines.{difference_lines, endless_line, first_endless_lines, gave_up_line, same_lines, second_endless_lines, unmade_line}
+use Rattle.presented_checker.specs.Refused.{Kept}
+use Rattle.compare_command.specs.Alike.{AreAlike, AreIsomorphic}
+use Rattle.compare_command.specs.Lines.{alike_lines, difference_lines, endless_line, first_endless_lines, gave_up_line, same_lines, second_endless_lines, undecided_line, unmade_line}
 use Rattle.compare_command.specs.Operands.{IsOperandOf}
 use Rattle.compare_command.specs.declared.operands.Operand.{Operand}
 use Rattle.compare_command.specs.declared.operands.Operand.TheVariants.{Certificate as Certified, Endless, Unmade}
@@ -25,17 +27,26 @@ SaysOf c d text false =
     ((why : Difference) × Tells c d why × (text ≡ difference_lines c d why))
     ⊎ (HasMoreLists c d MOST_LISTS × (text ≡ gave_up_line))
 
--- The same of any two quotients. If one alone is infinite, they aren't isomorphic. Two infinite ones aren't compared, nor
--- is a finite one that is presented, and of which no certificate was made.
+-- The same of two infinite quotients. They are isomorphic if their presentations are alike; else nothing is decided. One
+-- that isn't presented isn't compared.
+abbrev pub SaysOfEndless : Option Kept → Option Kept → List ℕ → Bool → Type 0
+SaysOfEndless (Some k) (Some l) text true = AreIsomorphic k.said l.said × (text ≡ alike_lines)
+SaysOfEndless (Some k) (Some l) text false = (AreAlike k.said l.said → ⊥) × (text ≡ undecided_line)
+SaysOfEndless (Some k) None text succeeds = (text ≡ endless_line) × (succeeds ≡ false)
+SaysOfEndless None (Some l) text succeeds = (text ≡ endless_line) × (succeeds ≡ false)
+SaysOfEndless None None text succeeds = (text ≡ endless_line) × (succeeds ≡ false)
+
+-- The same of any two quotients. If one alone is infinite, they aren't isomorphic. A finite one that is presented, and of
+-- which no certificate was made, isn't compared.
 abbrev pub SaysOfOperands : Operand → Operand → List ℕ → Bool → Type 0
 SaysOfOperands (Certified c) (Certified d) text succeeds = SaysOf c d text succeeds
-SaysOfOperands (Certified c) Endless text succeeds = (text ≡ second_endless_lines) × (succeeds ≡ false)
+SaysOfOperands (Certified c) (Endless o) text succeeds = (text ≡ second_endless_lines) × (succeeds ≡ false)
 SaysOfOperands (Certified c) Unmade text succeeds = (text ≡ unmade_line) × (succeeds ≡ false)
-SaysOfOperands Endless (Certified d) text succeeds = (text ≡ first_endless_lines) × (succeeds ≡ false)
-SaysOfOperands Endless Endless text succeeds = (text ≡ endless_line) × (succeeds ≡ false)
-SaysOfOperands Endless Unmade text succeeds = (text ≡ first_endless_lines) × (succeeds ≡ false)
+SaysOfOperands (Endless o) (Certified d) text succeeds = (text ≡ first_endless_lines) × (succeeds ≡ false)
+SaysOfOperands (Endless o) (Endless p) text succeeds = SaysOfEndless o p text succeeds
+SaysOfOperands (Endless o) Unmade text succeeds = (text ≡ first_endless_lines) × (succeeds ≡ false)
 SaysOfOperands Unmade (Certified d) text succeeds = (text ≡ unmade_line) × (succeeds ≡ false)
-SaysOfOperands Unmade Endless text succeeds = (text ≡ second_endless_lines) × (succeeds ≡ false)
+SaysOfOperands Unmade (Endless o) text succeeds = (text ≡ second_endless_lines) × (succeeds ≡ false)
 SaysOfOperands Unmade Unmade text succeeds = (text ≡ unmade_line) × (succeeds ≡ false)
 
 -- the same where the second was found, and the text of its no where it wasn't

@@ -31,9 +31,17 @@ matchless_lines element one other =
     codes "not isomorphic\nelement " ++ decimal element ++ codes " of the " ++ one
     ++ codes " like none of the " ++ other ++ codes "\n"
 
--- that both are infinite, and not compared
+-- that both are infinite, and one isn't presented
 abbrev pub endless_line : List ℕ
 endless_line = codes "not compared: both are infinite\n"
+
+-- that both are infinite, and presented alike
+abbrev pub alike_lines : List ℕ
+alike_lines = codes "isomorphic\nby the same relations and portion\n"
+
+-- that both are infinite, and presented otherwise
+abbrev pub undecided_line : List ℕ
+undecided_line = codes "not decided: both are infinite, and their presentations are different\n"
 
 -- that one alone is infinite
 abbrev pub first_endless_lines : List ℕ

@@ -1,12 +1,14 @@
 //! The comparison of the quotients of two files.
-ghost use Rattle.std.specs.Prelude.{◌≡◌, ◌⊎◌, ◌++◌, ◌||◌, codes, false, IfOk, IfErr, is_none, is_some, option_map};
+ghost use Rattle.std.specs.Prelude.{◌≡◌, ◌⊎◌, ◌++◌, ◌||◌, codes, true, false, IfOk, IfErr, Some, is_none, is_some, option_map};
 ghost use Rattle.check_command.specs.Checks.{AreGiven, IsGivenCause, failed};
-ghost use Rattle.compare_command.specs.Compared.{Compares, ComparesBeside, IsAccepted, IsCompareCause, SaysFound, SaysOf, SaysOfOperands, left_behind};
+ghost use Rattle.compare_command.specs.Compared.{Compares, ComparesBeside, IsAccepted, IsCompareCause, SaysFound, SaysOf, SaysOfEndless, SaysOfOperands, left_behind};
 ghost use Rattle.compare_command.specs.declared.operands.Operand.TheVariants.{Certificate, Endless, Unmade};
 
+use crate::alike::are_alike;
 use crate::operands::{Operand, operand_of};
 use crate::texts::{
-    ENDLESS, FIRST_ENDLESS, SECOND_ENDLESS, UNMADE, difference_text, gave_up_text, same_text,
+    ALIKE, ENDLESS, FIRST_ENDLESS, SECOND_ENDLESS, UNDECIDED, UNMADE, difference_text,
+    gave_up_text, same_text,
 };
 use allocation::Memory;
 use answers::Certified;
@@ -14,6 +16,7 @@ use command_results::{Said, Stop};
 use folders::Folder;
 use given_quotients::{Quotient, quotient_of};
 use isomorphisms::{Comparison, compared};
+use presented_checker::PresentedQuotient;
 use std::alloc::{AllocError, Global};
 use streams::Source;
 
@@ -48,18 +51,63 @@ fn beside_certificate(alloc: Global, a: &Certified, b: &Operand) -> Result<Said,
 {
     match b {
         Operand::Certificate(b) => said_of(alloc, a, b),
-        Operand::Endless => Ok(no_line(alloc, SECOND_ENDLESS)?),
+        Operand::Endless(_) => Ok(no_line(alloc, SECOND_ENDLESS)?),
         Operand::Unmade => Ok(no_line(alloc, UNMADE)?),
     }
 }
 
+/// A line of a yes.
+fn yes_line(alloc: Global, line: &str) -> Result<Said, AllocError>
+    ensures text { IfOk result (λ s. s.text.items ≡ line.now) }
+    ensures succeeds { IfOk result (λ s. s.succeeds ≡ true) }
+{
+    let text = String::from_str(alloc, line)?;
+    Ok(Said::done(text))
+}
+
+/// What is said of two infinite quotients that are presented.
+fn said_of_presented(
+    alloc: Global,
+    a: &PresentedQuotient,
+    b: &PresentedQuotient,
+) -> Result<Said, AllocError>
+    ensures { IfOk result (λ s. SaysOfEndless (Some a.now) (Some b.now) s.text.items s.succeeds) }
+{
+    if are_alike(a.said(), b.said()) {
+        yes_line(alloc, ALIKE)
+    } else {
+        no_line(alloc, UNDECIDED)
+    }
+}
+
+/// What is said of two infinite quotients.
+fn said_of_endless(
+    alloc: Global,
+    a: &Option<PresentedQuotient>,
+    b: &Option<PresentedQuotient>,
+) -> Result<Said, AllocError>
+    ensures { IfOk result (λ s. SaysOfEndless a.now b.now s.text.items s.succeeds) }
+{
+    let Some(one) = a else {
+        return no_line(alloc, ENDLESS);
+    };
+    match b {
+        Some(other) => said_of_presented(alloc, one, other),
+        None => no_line(alloc, ENDLESS),
+    }
+}
+
 /// What is said of an infinite quotient and another one.
-fn beside_endless(alloc: Global, b: &Operand) -> Result<Said, AllocError>
-    ensures { IfOk result (λ s. SaysOfOperands Endless b.now s.text.items s.succeeds) }
+fn beside_endless(
+    alloc: Global,
+    a: &Option<PresentedQuotient>,
+    b: &Operand,
+) -> Result<Said, AllocError>
+    ensures { IfOk result (λ s. SaysOfOperands (Endless a.now) b.now s.text.items s.succeeds) }
 {
     match b {
         Operand::Certificate(_) => no_line(alloc, FIRST_ENDLESS),
-        Operand::Endless => no_line(alloc, ENDLESS),
+        Operand::Endless(b) => said_of_endless(alloc, a, b),
         Operand::Unmade => no_line(alloc, FIRST_ENDLESS),
     }
 }
@@ -70,7 +118,7 @@ fn beside_unmade(alloc: Global, b: &Operand) -> Result<Said, AllocError>
 {
     match b {
         Operand::Certificate(_) => no_line(alloc, UNMADE),
-        Operand::Endless => no_line(alloc, SECOND_ENDLESS),
+        Operand::Endless(_) => no_line(alloc, SECOND_ENDLESS),
         Operand::Unmade => no_line(alloc, UNMADE),
     }
 }
@@ -81,7 +129,7 @@ fn said_of_operands(alloc: Global, a: &Operand, b: &Operand) -> Result<Said, Mem
 {
     match a {
         Operand::Certificate(a) => beside_certificate(alloc, a, b),
-        Operand::Endless => Ok(beside_endless(alloc, b)?),
+        Operand::Endless(a) => Ok(beside_endless(alloc, a, b)?),
         Operand::Unmade => Ok(beside_unmade(alloc, b)?),
     }
 }
@@ -146,7 +194,8 @@ fn compare_beside<'a, F: Folder, S: Source>(
 /// on standard input: that they are isomorphic as bipartite monoids, with the image of each element
 /// of the first; or that they aren't, and what tells them apart; or that there are more lists of
 /// images than are tried; or why a text isn't accepted, the first one's no where both aren't. A finite quotient that is
-/// presented is compared by the certificate of the same heaps, if one is made. Two infinite quotients aren't compared.
+/// presented is compared by the certificate of the same heaps, if one is made. Two infinite quotients are isomorphic if
+/// their presentations are alike; else nothing is decided of them. That of a whole game by triples isn't compared.
 pub fn compare<'a, F: Folder, S: Source>(
     alloc: Global,
     first: Option<&'a str>,

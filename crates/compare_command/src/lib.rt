@@ -1,6 +1,7 @@
 //! `compare`: whether the quotients that two files give are isomorphic as bipartite monoids.
 #![tactic(auto)]
 
+mod alike;
 mod comparing;
 mod operands;
 mod texts;

@@ -16,8 +16,8 @@ use std::alloc::Global;
 pub enum Operand {
     /// The certificate of a finite one.
     Certificate(Certified),
-    /// That it is infinite.
-    Endless,
+    /// That it is infinite; and its presentation, if it has one.
+    Endless(Option<PresentedQuotient>),
     /// That it is a finite one that is presented, of which no certificate was made.
     Unmade,
 }
@@ -40,14 +40,14 @@ fn finite_operand(
 /// What is compared of a quotient that is presented.
 fn presented_operand(
     alloc: Global,
-    quotient: &PresentedQuotient,
+    quotient: PresentedQuotient,
     limit: u32,
 ) -> Result<Operand, Memory>
-    ensures { IfOk result (IsOperandOf (Presented quotient.now)) }
+    ensures { IfOk result (IsOperandOf (Presented quotient)) }
 {
     match quotient.order() {
-        Some(_) => finite_operand(alloc, quotient, limit),
-        None => Ok(Operand::Endless),
+        Some(_) => finite_operand(alloc, &quotient, limit),
+        None => Ok(Operand::Endless(Some(quotient))),
     }
 }
 
@@ -57,7 +57,7 @@ pub(crate) fn operand_of(alloc: Global, quotient: Quotient, limit: u32) -> Resul
 {
     match quotient {
         Quotient::Finite(certified) => Ok(Operand::Certificate(certified)),
-        Quotient::Whole(_) => Ok(Operand::Endless),
-        Quotient::Presented(presented) => presented_operand(alloc, &presented, limit),
+        Quotient::Whole(_) => Ok(Operand::Endless(None)),
+        Quotient::Presented(presented) => presented_operand(alloc, presented, limit),
     }
 }

@@ -9,8 +9,15 @@ use answers::Certified;
 use isomorphisms::{Difference, idempotents, portion_size};
 use std::alloc::{AllocError, Global};
 
-/// That two infinite quotients aren't compared.
+/// That two infinite quotients aren't compared, since one isn't presented.
 pub(crate) const ENDLESS: &str = "not compared: both are infinite\n";
+
+/// That two infinite quotients are isomorphic, since their presentations are alike.
+pub(crate) const ALIKE: &str = "isomorphic\nby the same relations and portion\n";
+
+/// That nothing is decided of two infinite quotients, since their presentations aren't alike.
+pub(crate) const UNDECIDED: &str =
+    "not decided: both are infinite, and their presentations are different\n";
 
 /// That the first quotient is infinite, and the second finite.
 pub(crate) const FIRST_ENDLESS: &str = "not isomorphic\nthe first alone is infinite\n";

@@ -7,7 +7,7 @@ use command_results::{Said, Stop};
 use infinite_texts::hand_over;
 use misere_theory::{LARGEST_ORDER, LARGEST_PART};
 use requests::{LARGEST_LIMIT, LEAST_ORDER, PartsBounds};
-use solve_infinite_command::solve_infinite_bytes;
+use solve_infinite_command::{present_infinite_bytes, solve_infinite_bytes};
 use std::alloc::Global;
 use told_answers::{DONE, MEMORY, NOT_IN_RANGE};
 
@@ -27,17 +27,34 @@ fn are_in_range(bounds: PartsBounds) -> bool
     is_limit && are_heaps && is_order
 }
 
-/// What is said of the code that the bytes spell, if its quotient is to be presented or not; or the status.
-fn said_of(alloc: Global, code: &[u8], bounds: PartsBounds, is_presented: bool) -> Result<Said, u32>
+/// What is said of the code that the bytes spell, or the status.
+fn found_of(alloc: Global, code: &[u8], bounds: PartsBounds) -> Result<Said, u32>
     ensures told { IfOk result
-        (λ s. AreInRange bounds × IsFound code.now bounds is_presented s.text.items s.succeeds) }
+        (λ s. AreInRange bounds × IsFound code.now bounds false s.text.items s.succeeds) }
     ensures no { IfErr result (λ s. s ≢ 0 × s ≢ 13 × s ≢ 14) }
     ensures why { IfErr result (IsUntold code.now bounds) }
 {
     if !are_in_range(bounds) {
         return Err(NOT_IN_RANGE);
     }
-    match solve_infinite_bytes(alloc, code, bounds, is_presented) {
+    match solve_infinite_bytes(alloc, code, bounds) {
+        Ok(said) => Ok(said),
+        Err(Stop::NotACode) => Err(NOT_A_CODE),
+        Err(_) => Err(MEMORY),
+    }
+}
+
+/// The same of its presentation. (A function of its own: what calls the other one alone is linked without this search.)
+fn presented_of(alloc: Global, code: &[u8], bounds: PartsBounds) -> Result<Said, u32>
+    ensures told { IfOk result
+        (λ s. AreInRange bounds × IsFound code.now bounds true s.text.items s.succeeds) }
+    ensures no { IfErr result (λ s. s ≢ 0 × s ≢ 13 × s ≢ 14) }
+    ensures why { IfErr result (IsUntold code.now bounds) }
+{
+    if !are_in_range(bounds) {
+        return Err(NOT_IN_RANGE);
+    }
+    match present_infinite_bytes(alloc, code, bounds) {
         Ok(said) => Ok(said),
         Err(Stop::NotACode) => Err(NOT_A_CODE),
         Err(_) => Err(MEMORY),
@@ -90,7 +107,7 @@ pub(crate) fn solve(
         order,
         heaps,
     };
-    match said_of(alloc, code, bounds, false) {
+    match found_of(alloc, code, bounds) {
         Ok(said) => handed(&said, told, count),
         Err(status) => status,
     }
@@ -124,7 +141,7 @@ pub(crate) fn solve_presented(
         order,
         heaps,
     };
-    match said_of(alloc, code, bounds, true) {
+    match presented_of(alloc, code, bounds) {
         Ok(said) => handed(&said, told, count),
         Err(status) => status,
     }

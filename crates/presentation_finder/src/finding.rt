@@ -33,6 +33,22 @@ pub enum Unpresented {
     Refused,
 }
 
+/// Has a text checked.
+pub(crate) fn accepted<A: SmallAllocator + Copy>(
+    alloc: A,
+    text: Vec<u8, A>,
+) -> Result<Result<FoundPresentation<A>, Unpresented>, Memory>
+    ensures { IfOk result (λ found. IfOk found
+        (λ f. SpellsPresented f.text.items f.quotient.said × IsRight f.quotient)) }
+{
+    match check_presented(alloc, &text) {
+        Ok(quotient) => Ok(Ok(FoundPresentation { text, quotient })),
+        Err(InfiniteRefusal::Memory) => Err(Memory),
+        Err(InfiniteRefusal::Limit) => Ok(Err(Unpresented::Limit)),
+        Err(_) => Ok(Err(Unpresented::Refused)),
+    }
+}
+
 /// Looks for a presentation at one attempt.
 fn attempted<A: SmallAllocator + Copy>(
     alloc: A,
@@ -48,12 +64,7 @@ fn attempted<A: SmallAllocator + Copy>(
         Err(Halt::Repairs) => return Ok(Err(Unpresented::Refused)),
         Err(_) => return Ok(Err(Unpresented::Work)),
     };
-    match check_presented(alloc, &text) {
-        Ok(quotient) => Ok(Ok(FoundPresentation { text, quotient })),
-        Err(InfiniteRefusal::Memory) => Err(Memory),
-        Err(InfiniteRefusal::Limit) => Ok(Err(Unpresented::Limit)),
-        Err(_) => Ok(Err(Unpresented::Refused)),
-    }
+    accepted(alloc, text)
 }
 
 /// Looks for a presentation of a claim.

@@ -2,8 +2,8 @@
 use crate::contexts::Window;
 use crate::telling::{Contexts, Met, Tree};
 use crate::values::Value;
-use crate::words::{ONE, is_reducible_at, last_letter, lengthened};
 use normal_forms::{Exponents, Rule};
+use presentation_drafts::{ONE, is_reducible_at, last_letter, lengthened};
 use quotient_search::{Halt, Work};
 use std::alloc::Allocator;
 

@@ -22,8 +22,6 @@
 #![tactic(auto)]
 
 mod contexts;
-mod cycles;
-mod drafting;
 mod learning;
 mod letters;
 mod portion;
@@ -33,7 +31,6 @@ mod sources;
 mod telling;
 mod tracks;
 mod values;
-mod words;
 
 pub use searching::text_of;
 pub use sources::{ClaimValues, of_certified, of_tracked};

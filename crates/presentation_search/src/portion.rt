@@ -1,8 +1,8 @@
 //! The portion up to where outcomes surely repeat along each letter.
 use crate::reach::{Track, cycle_of, multiple};
 use crate::values::{Value, ValueTable};
-use crate::words::{ONE, exponent, is_reducible_at, last_letter, lengthened};
 use normal_forms::{Exponents, Rule};
+use presentation_drafts::{ONE, exponent, is_reducible_at, last_letter, lengthened};
 use presented_text::LetterCycle;
 use quotient_search::{Halt, Work};
 use std::alloc::Allocator;

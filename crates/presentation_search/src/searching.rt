@@ -1,7 +1,5 @@
 //! The search at one attempt.
 use crate::contexts::contexts_of;
-use crate::cycles::shortened;
-use crate::drafting::{FoundLines, drafted};
 use crate::learning::{LONGEST_WORD, WordExtent, learn};
 use crate::letters::{LetterHeaps, letters_of, words_of};
 use crate::portion::{Letterings, long_cycles};
@@ -9,6 +7,7 @@ use crate::reach::reaches_of;
 use crate::sources::ClaimValues;
 use crate::telling::Contexts;
 use crate::values::Value;
+use presentation_drafts::{FoundLines, drafted, shortened};
 use quotient_search::{Halt, Work};
 use std::alloc::Allocator;
 
@@ -48,8 +47,11 @@ fn found_with<A: Allocator + Copy>(
     let (cycles, portion) = shortened(alloc, &long, portion, work)?;
     let mut rules = Vec::new(alloc);
     rules.extend_from_slice(&learned.rules)?;
+    let LetterHeaps { heaps, .. } = letters;
     Ok(FoundLines {
-        letters,
+        code: source.code,
+        period: source.period,
+        letters: heaps,
         words,
         rules,
         cycles,
@@ -66,5 +68,5 @@ pub fn text_of<A: Allocator + Copy>(
     let mut work = Work::new(ATTEMPT_WORK);
     let (letters, known) = letters_of(alloc, source, attempt, &mut work)?;
     let found = found_with(alloc, source, letters, known, attempt, &mut work)?;
-    drafted(alloc, source, &found)
+    drafted(alloc, &found)
 }

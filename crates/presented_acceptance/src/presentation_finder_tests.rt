@@ -1,6 +1,7 @@
 //! Presentations that are found of accepted certificates.
 use infinite_checker::check_infinite;
-use presentation_finder::present_infinite;
+use octal_code::Code;
+use presentation_finder::{present_code, present_infinite};
 
 /// The certificate with tracks of 0.404 to heap 12.
 const TRACKED: &[u8] =
@@ -18,6 +19,22 @@ fn an_infinite_quotient_is_presented(rt: HostRuntime) {
     };
     match present_infinite(rt.alloc(), &shown) {
         Ok(Ok(found)) => assert!(rt; found.text.as_slice() == PRESENTED),
+        _ => assert!(rt; false),
+    }
+}
+
+/// The presentation of 0.354 to heap 5.
+const LEARNED: &[u8] =
+    b"mqp 1\ncode 0.354\nheaps 5\nletters 1 2 4 5\nwords a b c^2 c d\nrelation a^2 1\nrelation bc^5 ab^3c^2\nrelation b^2d abc\nrelation c^3d^2 ac^2\nrelation c^2d^3 acd\nrelation cd^4 ad^2\nrelation bc^4d b^2c^2\ncycle 2:1 2:2 5:2 4:6\nportion a d b^2 bc c^2 ad^2 d^3 abcd ac^3 b^3c b^2c^2 bc^2d c^4 c^2d^2 acd^3 bd^4 ab^2c^3 abc^3d ac^5 b^2c^4 c^6 abd^5 bd^6 d^7 ad^8 d^9\nend\n";
+
+#[test]
+fn a_presentation_is_learned_from_the_code(rt: HostRuntime) {
+    let Ok(code) = Code::read(b"0.354") else {
+        assert!(rt; false);
+        return;
+    };
+    match present_code(rt.alloc(), &code, 5) {
+        Ok(Some(found)) => assert!(rt; found.text.as_slice() == LEARNED),
         _ => assert!(rt; false),
     }
 }

@@ -5,12 +5,8 @@ use Rattle.std.proofs.lemmas.List.{get_or_append_left}
 use Rattle.std.proofs.Math.Seq.{get_or-append_seam}
 use Rattle.std.proofs.Math.Nat.{add-mul-mod_self_right, add-mul-div_right, div-eq_of_lt, mod-eq_of_lt, mod-lt, div-lt_iff_lt-mul}
 use Rattle.presented_tables.specs.Rows.{AreRows}
+pub use Rattle.presented_tables.specs.Rows.{AreFilled}
 use Rattle.presented_tables.proofs.Below.{last_or_before}
-
--- The entries so far have the property, each at its row and its place in the row.
-pub record AreFilled {X : Type 0} (P : ℕ → ℕ → X → Type 0) (width k : ℕ) (d : X) (xs : List X) : Type 0 where
-  pub long : length xs ≡ k
-  pub entries : (j : ℕ) → j < k → P (j / width) (j % width) (slice_index_or xs j d)
 
 one-filled : {X : Type 0} (P : ℕ → ℕ → X → Type 0) (width k : ℕ) (d v : X) (xs ys : List X)
     → AreFilled P width k d xs → ys ≡ xs ++ v ∷ [] → P (k / width) (k % width) v
@@ -62,7 +58,7 @@ inside (suc count) width (suc x) y lx ly =
 nothing-more : (a x : ℕ) → a ≡ 0 → a + x ≡ x
 nothing-more a x is = omega (arith, is)
 
-row-of : (width x y : ℕ) → y < width → (x * width + y) / width ≡ x
+pub row-of : (width x y : ℕ) → y < width → (x * width + y) / width ≡ x
 row-of width x y lt =
     ap (λ n. n / width) (swapped (x * width) y)
     ∙ add-mul-div_right y x (omega (arith, lt)) ∙ nothing-more (y / width) x (div-eq_of_lt lt)
@@ -70,7 +66,7 @@ row-of width x y lt =
     swapped : (a b : ℕ) → a + b ≡ b + a
     swapped a b = omega arith
 
-place-of : (width x y : ℕ) → y < width → (x * width + y) % width ≡ y
+pub place-of : (width x y : ℕ) → y < width → (x * width + y) % width ≡ y
 place-of width x y lt =
     ap (λ n. n % width) (swapped (x * width) y) ∙ add-mul-mod_self_right y x width ∙ mod-eq_of_lt lt
   where
@@ -87,3 +83,26 @@ all-filled P count width k d xs e f = record {
       subst (λ b. P x b (get_or xs (x * width + y) d)) (place-of width x y ly)
       (subst (λ a. P a ((x * width + y) % width) (get_or xs (x * width + y) d)) (row-of width x y ly) h);
 }
+
+-- ---- row g, entry by entry
+
+pub one-more-in : {X : Type 0} (P : ℕ → ℕ → X → Type 0) (width g x : ℕ) (d v : X) (xs ys : List X)
+    → x < width → AreFilled P width (g * width + x) d xs → ys ≡ xs ++ v ∷ [] → P g x v
+    → AreFilled P width (g * width + (x + 1)) d ys
+one-more-in P width g x d v xs ys lt f e p =
+    subst (λ k. AreFilled P width k d ys) (later (g * width) x)
+    (one-more P width (g * width + x) d v xs ys g x f e (sym (row-of width g x lt)) (sym (place-of width g x lt)) p)
+  where
+    later : (a b : ℕ) → a + b + 1 ≡ a + (b + 1)
+    later a b = omega arith
+
+-- ---- an entry that is looked up
+
+pub entry-at : {X : Type 0} (P : ℕ → ℕ → X → Type 0) (count width w x y : ℕ) (d v : X) (xs ys : List X)
+    → AreRows P count width d xs → w ≡ width → ys ≡ xs → x < count → y < width
+    → v ≡ slice_index_or ys (x * w + y) d → P x y v
+entry-at P count width w x y d v xs ys r wide same lx ly is =
+    subst (P x y)
+    (sym (is ∙ ap (λ n. slice_index_or ys (x * n + y) d) wide
+    ∙ ap (λ l. slice_index_or l (x * width + y) d) same))
+    (r.entries x y lx ly)

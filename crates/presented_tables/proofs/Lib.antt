@@ -5,6 +5,7 @@ pub mod Cycled
 pub mod Words
 pub mod Taking
 pub mod Orders
+pub mod Reaching
 pub mod HeapWords
 pub mod Places
 pub mod Claimed

@@ -7,6 +7,8 @@ use Rattle.presentations.specs.Vectors.{plus}
 use Rattle.normal_forms.specs.Forms.{IsNormalForm}
 use Rattle.presented_text.specs.Said.{PresentedSaid}
 use Rattle.presented_claims.specs.Claims.{heap_word}
+use Rattle.presented_tables.specs.Elements.{ListedElements, Takes}
+use Rattle.presented_tables.specs.Reached.{StandsAt}
 use Rattle.presented_tables.specs.Tested.{Says}
 use Rattle.presented_tables.specs.Saying.{word_shuffled}
 
@@ -15,3 +17,8 @@ pub says-shuffled : (c : PresentedSaid) (x X Y : List ℕ) (b : Bool) → IsPerm
 says-shuffled c x X Y b p s u nf =
     s u (subst (λ w. IsNormalForm LETTERS c.relations (plus x w) u)
     (sym (word_shuffled LETTERS (heap_word c) (from_permutation X Y p))) nf)
+
+pub stands-shuffled : (c : PresentedSaid) (e : ListedElements) (X Y : List ℕ) (y : ℕ) → IsPermutation X Y
+    → StandsAt c e X y → StandsAt c e Y y
+stands-shuffled c e X Y y p =
+    subst (λ w. Takes c e w 0 y) (word_shuffled LETTERS (heap_word c) (from_permutation X Y p))

@@ -1,6 +1,6 @@
 -- The place of a word in a list.
 use Rattle.std.proofs.Common.{◌≡◌, ℕ, zero, suc, ◌<◌, false, List, [], ◌∷◌, length, refl, sym, inl, inr, arith}
-use Rattle.std.specs.Prelude.{slice_index_or, nat_eq, cond}
+use Rattle.std.specs.Prelude.{slice_index_or, nat_eq}
 use Rattle.std.specs.Cmp.Lexicographic.{pointwise, same_text, other_text}
 use Rattle.std.proofs.lemmas.Bool.{cases_Bool}
 use Rattle.presented_tables.specs.Elements.{place}

@@ -6,7 +6,8 @@ use Rattle.presentations.specs.declared.TheConstants.{LETTERS}
 use Rattle.presentations.specs.Vectors.{plus, zeros, only}
 use Rattle.presentations.specs.Congruences.{Related}
 use Rattle.presentations.specs.Congruences.Related.{Same, Chained, Beside}
-use Rattle.presentations.proofs.VectorLaws.{cons-same, plus-zeros, zeros-plus, length-zeros, length-only, plus-assoc, only-here, bump-plus, by_letters, partial, partial-none, partial-next, partial-all, zeros-at}
+use Rattle.presentations.proofs.VectorLaws.{cons-same, plus-zeros, zeros-plus, length-zeros, length-only, plus-comm, plus-assoc, only-here, bump-plus, by_letters, partial, partial-none, partial-next, partial-all, zeros-at}
+use Rattle.kept_checker.specs.Numbers.{entry}
 use Rattle.normal_forms.specs.Forms.{IsNormalForm, IsStandard, IsIn, word_of}
 use Rattle.normal_forms.proofs.Words.{plus-at, length-sum, same-word}
 use Rattle.normal_forms.proofs.Confluence.{one-form}
@@ -14,6 +15,8 @@ use Rattle.presented_text.specs.Said.{PresentedSaid}
 use Rattle.presented_claims.specs.Claims.{IsElement, heap_word, in_portion}
 use Rattle.presented_tables.specs.Elements.{ListedElements, element, Takes, AreElements}
 use Rattle.presented_tables.specs.Tested.{Says}
+use Rattle.presented_tables.specs.Reached.{StandsAt}
+use Rattle.presented_tables.specs.Rows.{AreImages}
 
 pub only-none : (n i : ℕ) → only n i 0 ≡ zeros n
 only-none zero i = refl
@@ -125,6 +128,38 @@ module _ (c : PresentedSaid) (e : ListedElements) (are : AreElements c e) where
       → Says c (element e x) X b
   says-is X x y b h t is u nf =
       ap (in_portion c) (sym (form-is (word_of LETTERS (heap_word c) X) u x y h t nf)) ∙ sym is
+
+  -- ---- beside an element, what stands at another does what that one does
+
+  pub through : (w : List ℕ) (x y z : ℕ) → x < length e.words → Takes c e w 0 y
+      → Takes c e (element e y) x z → Takes c e w x z
+  through w x y z h a b =
+      let swapped : plus (plus (element e 0) w) (element e x) ≡ plus (element e x) w =
+      ap (λ v. plus v (element e x)) (ap (λ v. plus v w) are.first ∙ zeros-plus w LETTERS a.long)
+      ∙ plus-comm w (element e x)
+      in
+      record {
+        long = a.long;
+        inside = b.inside;
+        related =
+            Chained (plus (element e x) w) (plus (element e x) (element e y)) (element e z)
+            (subst (λ v. Related LETTERS c.relations v (plus (element e x) (element e y))) swapped
+            (subst (Related LETTERS c.relations (plus (plus (element e 0) w) (element e x)))
+            (plus-comm (element e y) (element e x))
+            (Beside (plus (element e 0) w) (element e y) (element e x) (long x h) a.related))) b.related;
+      }
+
+  pub says-beside : (H : List ℕ) (x y z width : ℕ) (images : List ℕ) (b : Bool)
+      → AreImages c e images → width ≡ length e.words
+      → z ≡ entry images width y x → x < length e.words
+      → (z < length e.words → b ≡ in_portion c (element e z)) → StandsAt c e H y
+      → Says c (element e x) H b
+  says-beside H x y z width images b rows wide is h said t =
+      let i : Takes c e (element e y) x z =
+      subst (Takes c e (element e y) x) (sym (is ∙ ap (λ n. entry images n y x) wide))
+      (rows.entries y x t.inside h)
+      in
+      says-is H x z b h (through (word_of LETTERS (heap_word c) H) x y z h t i) (said i.inside)
 
   -- ---- a heap without an option
 

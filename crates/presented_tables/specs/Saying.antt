@@ -1,6 +1,5 @@
 -- What a presentation says of positions, by normal forms. This project's own.
-use Rattle.std.proofs.Common.{◌≡◌, ℕ, Bool, List, [], ◌∷◌, length, refl, sym, ◌∙◌, ap, IsPermutation}
-use Rattle.std.specs.Prelude.{All}
+use Rattle.std.proofs.Common.{◌≡◌, ℕ, Bool, List, length, refl, sym, ◌∙◌, ap, IsPermutation}
 use Rattle.misere_theory.specs.Labels.{says_by}
 use Rattle.misere_theory.proofs.Shuffles.{Shuffled, from_permutation}
 use Rattle.misere_theory.proofs.Shuffles.Shuffled.{Same, Under, Flip, Then}

@@ -2,15 +2,12 @@
 ghost use Rattle.std.specs.Prelude.{◌≡◌, ◌<◌, IfSome, length};
 ghost use Rattle.presentations.specs.declared.TheConstants.{LETTERS};
 ghost use Rattle.presentations.specs.Vectors.{only};
-ghost use Rattle.heap_options.specs.Exact.{heaps_of};
 ghost use Rattle.kept_checker.specs.Numbers.{entry};
-ghost use Rattle.normal_forms.specs.Forms.{word_of};
 ghost use Rattle.presented_claims.specs.Claims.{heap_word};
 ghost use Rattle.presented_tables.specs.Elements.{Takes, AreElements};
 
 use crate::elements::ListedElements;
 use crate::presentation::Presented;
-use heap_options::Left;
 use normal_forms::Exponents;
 use presentations::LETTERS;
 use std::alloc::Allocator;
@@ -90,31 +87,5 @@ pub(crate) fn with_heap<A: Allocator>(
     match p.word(n) {
         Some(word) => act(p, e, x, &word),
         None => Some(x),
-    }
-}
-
-/// The element to which what is left of a heap does.
-pub(crate) fn with_left<A: Allocator>(
-    p: &Presented<A>,
-    e: &ListedElements<A>,
-    x: usize,
-    left: Left,
-) -> Option<usize>
-    requires elements { AreElements p.now e.now }
-    requires inside { x < length e.now.words }
-    ensures { IfSome result (λ y. Takes p.now e.now (word_of LETTERS (heap_word p.now) (heaps_of left)) x y) }
-{
-    match left {
-        Left::Nothing => Some(x),
-        Left::One(a) => with_heap(p, e, x, a),
-        Left::Two(a, b) => {
-            let y = with_heap(p, e, x, a)?;
-            with_heap(p, e, y, b)
-        }
-        Left::Three(a, b, c) => {
-            let y = with_heap(p, e, x, a)?;
-            let z = with_heap(p, e, y, b)?;
-            with_heap(p, e, z, c)
-        }
     }
 }

@@ -118,9 +118,9 @@ fn label_tables<A: Allocator + Copy>(
     ensures fault { IfErr result (λ f. IsTrueOf p.now f) }
 {
     let numbers = numbers_of(alloc, p)?;
-    let bad = marks(alloc, p, e, &numbers)?;
     let next = nexts(alloc, p, e, &numbers)?;
     let images = images(alloc, p, e)?;
+    let bad = marks(alloc, p, e, &numbers, &images, &next)?;
     let weights = weights(alloc, numbers.sizes.len())?;
     Ok(LabelTables {
         heaps: numbers.sizes.len(),

@@ -1,15 +1,15 @@
 //! Whether a heap and its options are in the portion beside an element.
-ghost use Rattle.std.specs.Prelude.{◌≡◌, ◌<◌, ◌⊎◌, ℕ, IfSome, true, false, [], ◌∷◌, length};
-ghost use Rattle.heap_options.specs.Exact.{heaps_of};
+ghost use Rattle.std.specs.Prelude.{◌≡◌, ◌<◌, ◌⊎◌, ℕ, List, IfSome, true, false, [], ◌∷◌, length};
 ghost use Rattle.presented_claims.specs.Claims.{in_portion};
 ghost use Rattle.presented_tables.specs.Elements.{element, AreElements};
 ghost use Rattle.presented_tables.specs.Tested.{Says, SomeSays, NoneSays};
 ghost use Rattle.presented_tables.specs.Beside.{IsBeside};
+ghost use Rattle.presented_tables.specs.Reached.{StandsAt, AreReached};
+ghost use Rattle.presented_tables.specs.Rows.{AreImages};
 
-use crate::acting::{with_heap, with_left};
+use crate::acting::{number_at, with_heap};
 use crate::elements::ListedElements;
 use crate::presentation::Presented;
-use heap_options::{Left, options, options_are_exact};
 use std::alloc::Allocator;
 
 /// What a heap does beside an element: neither the heap nor an option of it is in the portion, one of them is, or
@@ -47,36 +47,41 @@ fn says_heap<A: Allocator>(
     bit(p, e, y)
 }
 
-/// Whether what is left of a heap is, beside element `x`.
-fn says_left<A: Allocator>(
+/// Whether an option that stands at element `y` is, beside element `x`.
+fn says_at<A: Allocator>(
     p: &Presented<A>,
     e: &ListedElements<A>,
+    images: &[u32],
     x: usize,
-    left: Left,
+    y: usize,
 ) -> Option<bool>
     requires elements { AreElements p.now e.now }
+    requires images { AreImages p.now e.now images.now }
     requires inside { x < length e.now.words }
-    ensures { IfSome result (λ b. Says p.now (element e.now x) (heaps_of left) b) }
+    ensures { IfSome result (λ b. (H : List ℕ) → StandsAt p.now e.now H y → Says p.now (element e.now x) H b) }
 {
-    let y = with_left(p, e, x, left)?;
-    bit(p, e, y)
+    let z = number_at(images, e.words.len(), y, x)?;
+    bit(p, e, z)
 }
 
 /// Whether some option of the heap is, beside element `x`.
 fn says_option<A: Allocator>(
     p: &Presented<A>,
     e: &ListedElements<A>,
+    images: &[u32],
+    reached: &[u32],
     x: usize,
     n: u64,
 ) -> Option<bool>
     requires elements { AreElements p.now e.now }
+    requires images { AreImages p.now e.now images.now }
+    requires reached { AreReached p.now e.now n reached.now }
     requires inside { x < length e.now.words }
     ensures some { IfSome result (λ b. b ≡ true → SomeSays p.now (element e.now x) n) }
     ensures none { IfSome result (λ b. b ≡ false → NoneSays p.now (element e.now x) n) }
 {
-    options_are_exact();
-    for left in options(&p.code, n) {
-        if says_left(p, e, x, left)? {
+    for y in reached {
+        if says_at(p, e, images, x, *y as usize)? {
             return Some(true);
         }
     }
@@ -87,15 +92,19 @@ fn says_option<A: Allocator>(
 pub(crate) fn heap_beside<A: Allocator>(
     p: &Presented<A>,
     e: &ListedElements<A>,
+    images: &[u32],
+    reached: &[u32],
     x: usize,
     n: u64,
 ) -> Option<Beside>
     requires elements { AreElements p.now e.now }
+    requires images { AreImages p.now e.now images.now }
+    requires reached { AreReached p.now e.now n reached.now }
     requires inside { x < length e.now.words }
     ensures { IfSome result (λ b. IsBeside p.now (element e.now x) n b) }
 {
     let own = says_heap(p, e, x, n)?;
-    let option = says_option(p, e, x, n)?;
+    let option = says_option(p, e, images, reached, x, n)?;
     if own {
         if option {
             return Some(Beside::Both);

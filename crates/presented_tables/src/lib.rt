@@ -16,6 +16,7 @@ mod numbers;
 mod portion;
 mod presentation;
 mod products;
+mod reached;
 mod rows;
 mod says;
 mod standing;

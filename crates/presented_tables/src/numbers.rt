@@ -39,6 +39,16 @@ pub(crate) fn number(list: &[u32], x: usize) -> Option<usize>
     }
 }
 
+/// The number, if it is small enough.
+pub(crate) fn small(y: usize) -> Option<u32>
+    ensures { IfSome result (λ v. v ≡ y) }
+{
+    match u32::try_from(y) {
+        Ok(v) => Some(v),
+        Err(_) => None,
+    }
+}
+
 /// Whether the heap has a word and an option.
 fn is_movable<A: Allocator>(p: &Presented<A>, n: u64) -> bool
     ensures yes { result ≡ true → IsMovable (HasWord p.now) p.now.code n }

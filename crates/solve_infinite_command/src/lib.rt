@@ -6,4 +6,4 @@ mod presenting;
 mod reasons;
 mod saying;
 
-pub use saying::{solve_infinite, solve_infinite_bytes};
+pub use saying::{present_infinite_bytes, solve_infinite, solve_infinite_bytes};

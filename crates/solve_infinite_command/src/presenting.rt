@@ -10,7 +10,7 @@ use command_results::Said;
 use infinite_answers::Infinite;
 use infinite_finder::{FoundInfinite, Unfound, find_infinite};
 use octal_code::Code;
-use presentation_finder::{FoundPresentation, Unpresented, present_infinite};
+use presentation_finder::{FoundPresentation, Unpresented, present_code, present_infinite};
 use requests::PartsBounds;
 use std::alloc::Global;
 
@@ -98,8 +98,19 @@ fn presentation(
     }
 }
 
-/// Looks for a certificate with tracks of the code, and then for the presentation of its quotient, and says it, or why
-/// none was found.
+/// Looks for a presentation by the code alone, and says it, or why no certificate was found.
+fn learned(alloc: Global, code: &Code, bounds: PartsBounds, why: Unfound) -> Result<Said, Memory>
+    ensures { IfOk result (λ s. FindsPresented code.now bounds s.text.items s.succeeds) }
+{
+    match present_code(alloc, code, bounds.heaps as usize)? {
+        Some(found) => Ok(told(code, bounds, found)),
+        None => unfound(alloc, code, bounds, why),
+    }
+}
+
+/// Looks for a certificate with tracks of the code, and then for the presentation of its quotient; and if there is no
+/// such certificate, though some part seems to have an infinite quotient, for a presentation by the code alone. Says
+/// what was found, or why nothing was.
 pub(crate) fn presented(alloc: Global, code: &Code, bounds: PartsBounds) -> Result<Said, Memory>
     ensures { IfOk result (λ s. FindsPresented code.now bounds s.text.items s.succeeds) }
 {
@@ -109,6 +120,9 @@ pub(crate) fn presented(alloc: Global, code: &Code, bounds: PartsBounds) -> Resu
             drop(text);
             presentation(alloc, code, bounds, &shown)
         }
-        Err(why) => unfound(alloc, code, bounds, why),
+        Err(Unfound::Finite { heaps }) => {
+            unfound(alloc, code, bounds, Unfound::Finite { heaps })
+        }
+        Err(why) => learned(alloc, code, bounds, why),
     }
 }

@@ -1,8 +1,7 @@
 //! What a search for a certificate of an infinite quotient says.
-ghost use Rattle.std.specs.Prelude.{◌↔◌, IfOk, IfErr, IsErrOf};
+ghost use Rattle.std.specs.Prelude.{◌↔◌, true, false, IfOk, IfErr, IsErrOf};
 ghost use Rattle.solve_command.specs.Solved.{IsNoCode, IsSolveCause};
 ghost use Rattle.solve_infinite_command.specs.Found.{Finds};
-ghost use Rattle.solve_infinite_command.specs.Presented.{FindsAsked};
 ghost use Rattle.solve_infinite_command.specs.Asked.{IsFound};
 
 use crate::presenting::presented;
@@ -50,22 +49,6 @@ fn found(alloc: Global, code: &Code, bounds: PartsBounds) -> Result<Said, Memory
     }
 }
 
-/// Looks for what is asked of the code, and says it.
-fn asked(
-    alloc: Global,
-    code: &Code,
-    bounds: PartsBounds,
-    is_presented: bool,
-) -> Result<Said, Memory>
-    ensures { IfOk result (λ s. FindsAsked code.now bounds is_presented s.text.items s.succeeds) }
-{
-    if is_presented {
-        presented(alloc, code, bounds)
-    } else {
-        found(alloc, code, bounds)
-    }
-}
-
 /// Looks for the text of the whole game whose code the word is: it says the outcome of every position, and
 /// that the quotient is infinite. If none is found, looks for the first part of the game, of the heaps 1 to
 /// some heap up to `bounds.heaps`, that has no finite quotient. Says the certificate with tracks that shows
@@ -83,23 +66,43 @@ pub fn solve_infinite(
     ensures stops { IfErr result (IsSolveCause word.now) }
     ensures not_a_code { IsErrOf result Stop.NotACode ↔ IsNoCode word.now }
 {
-    solve_infinite_bytes(alloc, word.as_bytes(), bounds, is_presented)
+    if is_presented {
+        present_infinite_bytes(alloc, word.as_bytes(), bounds)
+    } else {
+        solve_infinite_bytes(alloc, word.as_bytes(), bounds)
+    }
 }
 
-/// The same of bytes, which may be no text at all.
+/// The same of bytes, which may be no text at all; it isn't presented.
 pub fn solve_infinite_bytes(
     alloc: Global,
     word: &[u8],
     bounds: PartsBounds,
-    is_presented: bool,
 ) -> Result<Said, Stop<'static>>
-    ensures says { IfOk result (λ s. IsFound word.now bounds is_presented s.text.items s.succeeds) }
+    ensures says { IfOk result (λ s. IsFound word.now bounds false s.text.items s.succeeds) }
     ensures stops { IfErr result (IsSolveCause word.now) }
     ensures not_a_code { IsErrOf result Stop.NotACode ↔ IsNoCode word.now }
 {
     let Ok(code) = Code::read(word) else {
         return Err(Stop::NotACode);
     };
-    let said = asked(alloc, &code, bounds, is_presented)?;
+    let said = found(alloc, &code, bounds)?;
+    Ok(said)
+}
+
+/// The same, presented.
+pub fn present_infinite_bytes(
+    alloc: Global,
+    word: &[u8],
+    bounds: PartsBounds,
+) -> Result<Said, Stop<'static>>
+    ensures says { IfOk result (λ s. IsFound word.now bounds true s.text.items s.succeeds) }
+    ensures stops { IfErr result (IsSolveCause word.now) }
+    ensures not_a_code { IsErrOf result Stop.NotACode ↔ IsNoCode word.now }
+{
+    let Ok(code) = Code::read(word) else {
+        return Err(Stop::NotACode);
+    };
+    let said = presented(alloc, &code, bounds)?;
     Ok(said)
 }

@@ -1,12 +1,10 @@
-use Rattle.std.proofs.Common.{false}
-use Rattle.heap_options.specs.Exact.{heaps_of}
-use Rattle.heap_options.specs.Options.{options_of}
+use Rattle.std.proofs.Common.{ℕ, List, false, take}
+use Rattle.std.specs.List.{All}
 use Rattle.presented_tables.specs.Elements.{element}
+use Rattle.presented_tables.specs.Reached.{StandsAt}
 use Rattle.presented_tables.specs.Tested.{Says}
-use Rattle.presented_tables.proofs.Walked.{IsWalked}
 use Rattle.presented_tables.proofs.beside.says_option.Given as goal
 
-abbrev pub invariant-loop-left : goal.invariant-loop-left
-invariant-loop-left g l =
-    IsWalked (λ left. Says l.p (element l.e l.x) (heaps_of left) false) l.yielded l.left-iterator
-    (options_of l.p.code l.n)
+abbrev pub invariant-loop-y : goal.invariant-loop-y
+invariant-loop-y g l =
+    All (λ y. (H : List ℕ) → StandsAt l.p l.e H y → Says l.p (element l.e l.x) H false) (take l.y-index l.reached)

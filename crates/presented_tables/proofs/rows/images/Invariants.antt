@@ -1,5 +1,4 @@
-use Rattle.presented_tables.specs.Rows.{IsImage}
-use Rattle.presented_tables.proofs.Filled.{AreFilled}
+use Rattle.presented_tables.specs.Rows.{AreFilled, IsImage}
 use Rattle.presented_tables.proofs.rows.images.Given as goal
 
 abbrev pub invariant-loop-k : goal.invariant-loop-k

@@ -1,6 +1,5 @@
 use Rattle.std.proofs.Common.{true}
-use Rattle.presented_tables.specs.Rows.{IsMark}
-use Rattle.presented_tables.proofs.Filled.{AreFilled}
+use Rattle.presented_tables.specs.Rows.{AreFilled, IsMark}
 use Rattle.presented_tables.proofs.rows.marks.Given as goal
 
 abbrev pub invariant-loop-k : goal.invariant-loop-k

@@ -1,5 +1,4 @@
-use Rattle.presented_tables.specs.Rows.{IsNext}
-use Rattle.presented_tables.proofs.Filled.{AreFilled}
+use Rattle.presented_tables.specs.Rows.{AreFilled, IsNext}
 use Rattle.presented_tables.proofs.rows.nexts.Given as goal
 
 abbrev pub invariant-loop-k : goal.invariant-loop-k

@@ -1,18 +1,19 @@
 //! The text of a presentation.
-use crate::letters::LetterHeaps;
-use crate::sources::ClaimValues;
 use crate::words::{exponent, last_letter};
 use normal_forms::{Exponents, Rule};
+use octal_code::Code;
 use presentations::LETTERS;
 use presented_text::LetterCycle;
 use quotient_search::Halt;
 use std::alloc::Allocator;
 
-/// What a text says beside the code and the period: letters, heaps' words, relations by the order of their left words,
-/// cycles and portion.
+/// What a text says: the code; the period, or 0 if there is none; the letters' heaps, the heaps' words, relations by
+/// the order of their left words, cycles and portion.
 #[derive(Drop)]
 pub struct FoundLines<A: Allocator> {
-    pub letters: LetterHeaps<A>,
+    pub code: Code,
+    pub period: u64,
+    pub letters: Vec<usize, A>,
     pub words: Vec<Option<Exponents>, A>,
     pub rules: Vec<Rule, A>,
     pub cycles: Vec<LetterCycle, A>,
@@ -64,16 +65,16 @@ impl<A: Allocator + Copy> Draft<A> {
     }
 
     /// The lines up to the words of the heaps.
-    fn add_head(&mut self, source: &ClaimValues<A>, found: &FoundLines<A>) -> Result<(), Halt> {
-        let code = source.code.text(self.alloc)?;
+    fn add_head(&mut self, found: &FoundLines<A>) -> Result<(), Halt> {
+        let code = found.code.text(self.alloc)?;
         self.add("mqp 1\ncode ")?;
         self.add(code.as_str())?;
         self.add_number("\nheaps ", found.words.len())?;
-        if source.period > 0 {
-            self.add_number(" period ", source.period as usize)?;
+        if found.period > 0 {
+            self.add_number(" period ", found.period as usize)?;
         }
         self.add("\nletters")?;
-        for heap in found.letters.heaps.iter() {
+        for heap in found.letters.iter() {
             self.add_number(" ", *heap)?;
         }
         self.add("\nwords")?;
@@ -115,17 +116,13 @@ impl<A: Allocator + Copy> Draft<A> {
 }
 
 /// The text of what was found.
-pub fn drafted<A: Allocator + Copy>(
-    alloc: A,
-    source: &ClaimValues<A>,
-    found: &FoundLines<A>,
-) -> Result<Vec<u8, A>, Halt> {
+pub fn drafted<A: Allocator + Copy>(alloc: A, found: &FoundLines<A>) -> Result<Vec<u8, A>, Halt> {
     let mut draft = Draft {
         alloc,
         text: Vec::new(alloc),
     };
-    draft.add_head(source, found)?;
-    for letter in 0..found.letters.heaps.len() {
+    draft.add_head(found)?;
+    for letter in 0..found.letters.len() {
         draft.add_relations(&found.rules, letter)?;
     }
     draft.add_portion(found)?;

@@ -73,7 +73,7 @@ pub fn order(one: &Exponents, other: &Exponents) -> Ordering {
 
 /// Whether the first word is in the second one.
 #[inline]
-fn is_in(part: &Exponents, whole: &Exponents) -> bool {
+pub fn is_in(part: &Exponents, whole: &Exponents) -> bool {
     for letter in 0..LETTERS {
         if exponent(part, letter) > exponent(whole, letter) {
             return false;
