@@ -7,3 +7,4 @@ pub mod Confluence
 pub mod Products
 pub mod Finite
 pub mod Known
+pub mod RuleTables

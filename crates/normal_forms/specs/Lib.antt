@@ -1,3 +1,4 @@
 pub mod Reductions
 pub mod Forms
 pub mod Known
+pub mod RuleTables

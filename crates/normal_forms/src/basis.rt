@@ -9,18 +9,20 @@ ghost use Rattle.normal_forms.specs.Forms.{IsNormalForm, IsStandard};
 use crate::MOST_LETTERS;
 use crate::fault::BasisFault;
 use crate::pairs::{are_oriented, are_short, do_pairs_join};
-use crate::reducing::{first_rule, letter_count, reduced};
+use crate::reducing::{letter_count, reduced};
 use crate::remembering::KnownForms;
 use crate::rule::{Exponents, Rule};
+use crate::table::RuleTable;
 use allocation::Memory;
 use presentations::LETTERS;
 use std::alloc::{Allocator, Global};
 use std::marker::Model;
 
-/// Relations that lead down and whose critical pairs join, and elements by which words are reduced faster, if there are any.
+/// Relations that lead down and whose critical pairs join, with a table by which those are found that reduce a word.
 #[derive(Drop)]
 pub struct Basis<A: Allocator = Global> {
     rules: Vec<Rule, A>,
+    table: RuleTable<A>,
     known: Option<KnownForms<A>>,
 }
 
@@ -28,6 +30,7 @@ impl<A: Allocator> Model for Basis<A> {
     ghost use Rattle.std.specs.Prelude.{ℕ, List};
     ghost use Rattle.presentations.specs.declared.TheConstants.{LETTERS};
     ghost use Rattle.normal_forms.specs.Reductions.{AreConvergent};
+    ghost use Rattle.normal_forms.specs.RuleTables.{IsRuleTable};
     ghost use Rattle.normal_forms.specs.Known.{AreKnown};
     ghost use Rattle.std.specs.Prelude.{IfSome};
 
@@ -35,12 +38,17 @@ impl<A: Allocator> Model for Basis<A> {
 
     ghost view = { λ b. b.rules.items };
 
-    ghost invariant = { λ b. AreConvergent LETTERS b.rules.items × IfSome b.known (λ k. AreKnown b.rules.items k) };
+    ghost invariant = { λ b. AreConvergent LETTERS b.rules.items × IsRuleTable b.rules.items b.table
+        × IfSome b.known (λ k. AreKnown b.rules.items k) };
 }
 
 impl<A: Allocator> Basis<A> {
     /// Tests the relations. Refuses `Long` first, then `Order`, then `Pair`.
-    pub fn new(rules: Vec<Rule, A>) -> Result<Basis<A>, BasisFault>
+    ///
+    /// # Errors
+    ///
+    /// `Memory` is a growth that was refused; nothing is said of the relations then, which are gone after each error.
+    pub fn new(alloc: A, rules: Vec<Rule, A>) -> Result<Basis<A>, BasisFault>
         ensures ok { IfOk result (λ b. (b ≡ rules.items) × AreShort LETTERS rules.items
             × AreConvergent LETTERS rules.items) }
         ensures long { (result ≡ Err BasisFault.Long) → AreShort LETTERS rules.items → ⊥ }
@@ -53,10 +61,17 @@ impl<A: Allocator> Basis<A> {
         if !are_oriented(rules.as_slice()) {
             return Err(BasisFault::Order);
         }
-        if !do_pairs_join(rules.as_slice()) {
+        let Ok(table) = RuleTable::of(alloc, rules.as_slice()) else {
+            return Err(BasisFault::Memory);
+        };
+        if !do_pairs_join(rules.as_slice(), &table) {
             return Err(BasisFault::Pair);
         }
-        Ok(Basis { rules, known: None })
+        Ok(Basis {
+            rules,
+            table,
+            known: None,
+        })
     }
 
     /// The relations.
@@ -71,7 +86,7 @@ impl<A: Allocator> Basis<A> {
     pub fn is_standard(&self, word: &Exponents) -> bool
         ensures { IsTrue result ↔ IsStandard LETTERS self.now word.now }
     {
-        match first_rule(self.rules.as_slice(), word) {
+        match self.table.first_rule(self.rules.as_slice(), word) {
             Some(_) => false,
             None => true,
         }
@@ -89,7 +104,7 @@ impl<A: Allocator> Basis<A> {
         if let Some(form) = self.known_form(word) {
             return Some(form);
         }
-        Some(reduced(self.rules.as_slice(), word))
+        Some(reduced(self.rules.as_slice(), &self.table, word))
     }
 
     /// The normal form of a word, if it is found by the elements that are known.
@@ -113,9 +128,10 @@ impl<A: Allocator + Copy> Basis<A> {
     pub fn remembering(self, alloc: A, letters: usize, most: usize) -> Result<Basis<A>, Memory>
         ensures { IfOk result (λ b. b ≡ self) }
     {
-        let known = KnownForms::of(alloc, self.rules.as_slice(), letters, most)?;
+        let known = KnownForms::of(alloc, self.rules.as_slice(), &self.table, letters, most)?;
         Ok(Basis {
             rules: self.rules,
+            table: self.table,
             known,
         })
     }

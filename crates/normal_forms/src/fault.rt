@@ -9,4 +9,6 @@ pub enum BasisFault {
     Order,
     /// The two sides of a critical pair have different normal forms.
     Pair,
+    /// A growth was refused.
+    Memory,
 }

@@ -19,6 +19,7 @@ mod pairs;
 mod reducing;
 mod remembering;
 mod rule;
+mod table;
 
 pub use basis::Basis;
 pub use fault::BasisFault;

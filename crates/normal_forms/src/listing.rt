@@ -1,6 +1,8 @@
 //! Standard words with few letters, of which nothing is promised, and a search in them.
-use crate::reducing::first_rule;
+ghost use Rattle.normal_forms.specs.RuleTables.{IsRuleTable};
+
 use crate::rule::{Exponents, Rule};
+use crate::table::RuleTable;
 use allocation::Memory;
 use presentations::LETTERS;
 use std::alloc::Allocator;
@@ -19,14 +21,17 @@ fn last_letter(word: &Exponents) -> usize {
 /// Adds the standard words that the word becomes with its last letter or a later one more.
 fn add_longer<A: Allocator>(
     rules: &[Rule],
+    table: &RuleTable<A>,
     letters: usize,
     list: &mut Vec<Exponents, A>,
     word: &Exponents,
-) -> Result<(), Memory> {
+) -> Result<(), Memory>
+    requires { IsRuleTable rules.now table.now }
+{
     for i in last_letter(word)..letters.min(LETTERS) {
         let mut more = *word;
         more[i] = more[i].saturating_add(1);
-        if first_rule(rules, &more).is_none() {
+        if table.first_rule(rules, &more).is_none() {
             list.push(more)?;
         }
     }
@@ -37,9 +42,12 @@ fn add_longer<A: Allocator>(
 pub(crate) fn standard_words<A: Allocator>(
     alloc: A,
     rules: &[Rule],
+    table: &RuleTable<A>,
     letters: usize,
     most: usize,
-) -> Result<Vec<Exponents, A>, Memory> {
+) -> Result<Vec<Exponents, A>, Memory>
+    requires { IsRuleTable rules.now table.now }
+{
     let mut list = Vec::new(alloc);
     list.push([0; LETTERS])?;
     for x in 0..most {
@@ -49,7 +57,7 @@ pub(crate) fn standard_words<A: Allocator>(
         let Some(word) = list.get(x).copied() else {
             break;
         };
-        add_longer(rules, letters, &mut list, &word)?;
+        add_longer(rules, table, letters, &mut list, &word)?;
     }
     list.sort_unstable();
     Ok(list)

@@ -4,11 +4,15 @@ ghost use Rattle.presentations.specs.declared.TheConstants.{LETTERS};
 ghost use Rattle.relations.specs.Bases.{Precedes, letter_count};
 ghost use Rattle.normal_forms.specs.declared.TheConstants.{MOST_LETTERS};
 ghost use Rattle.normal_forms.specs.Reductions.{AreOriented, AreConvergent, AreShort, Join, side_of};
+ghost use Rattle.normal_forms.specs.RuleTables.{IsRuleTable};
 
 use crate::MOST_LEFT_LETTERS;
+use crate::letters::is_word;
 use crate::reducing::{letter_count, reduced};
 use crate::rule::{Exponents, Rule};
+use crate::table::RuleTable;
 use presentations::LETTERS;
+use std::alloc::Allocator;
 
 /// Whether the first word comes before the second one: by fewer letters in all, and of as many, by more
 /// of the first letter of which they differ.
@@ -80,20 +84,9 @@ fn are_coprime(v: &Exponents, w: &Exponents) -> bool
     true
 }
 
-/// Whether the words are the same.
-fn is_word(v: &Exponents, w: &Exponents) -> bool
-    ensures { IsTrue result ↔ (v.now ≡ w.now) }
-{
-    for i in 0..LETTERS {
-        if v[i] != w[i] {
-            return false;
-        }
-    }
-    true
-}
-
 /// Whether the critical pair of two relations joins. Where no letter is in both left words, it does.
-fn pair_joins(rules: &[Rule], i: usize, k: usize) -> bool
+fn pair_joins<A: Allocator>(rules: &[Rule], table: &RuleTable<A>, i: usize, k: usize) -> bool
+    requires table { IsRuleTable rules.now table.now }
     requires short { AreShort LETTERS rules.now }
     requires oriented { AreOriented LETTERS rules.now }
     requires i_in { i < length rules.now }
@@ -107,13 +100,14 @@ fn pair_joins(rules: &[Rule], i: usize, k: usize) -> bool
     if are_coprime(&one.left, &other.left) {
         return true;
     }
-    let first = reduced(rules, &side(one, other));
-    let second = reduced(rules, &side(other, one));
+    let first = reduced(rules, table, &side(one, other));
+    let second = reduced(rules, table, &side(other, one));
     is_word(&first, &second)
 }
 
 /// Whether the critical pairs of relation `i` with those before it join.
-fn join_before(rules: &[Rule], i: usize) -> bool
+fn join_before<A: Allocator>(rules: &[Rule], table: &RuleTable<A>, i: usize) -> bool
+    requires table { IsRuleTable rules.now table.now }
     requires short { AreShort LETTERS rules.now }
     requires oriented { AreOriented LETTERS rules.now }
     requires i_in { i < length rules.now }
@@ -123,7 +117,7 @@ fn join_before(rules: &[Rule], i: usize) -> bool
     ensures fails { AreConvergent LETTERS rules.now → IsTrue result }
 {
     for k in 0..i {
-        if !pair_joins(rules, i, k) {
+        if !pair_joins(rules, table, i, k) {
             return false;
         }
     }
@@ -131,13 +125,14 @@ fn join_before(rules: &[Rule], i: usize) -> bool
 }
 
 /// Whether all critical pairs join.
-pub fn do_pairs_join(rules: &[Rule]) -> bool
+pub fn do_pairs_join<A: Allocator>(rules: &[Rule], table: &RuleTable<A>) -> bool
+    requires table { IsRuleTable rules.now table.now }
     requires short { AreShort LETTERS rules.now }
     requires oriented { AreOriented LETTERS rules.now }
     ensures { IsTrue result ↔ AreConvergent LETTERS rules.now }
 {
     for i in 0..rules.len() {
-        if !join_before(rules, i) {
+        if !join_before(rules, table, i) {
             return false;
         }
     }

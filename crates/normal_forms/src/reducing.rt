@@ -5,9 +5,12 @@ ghost use Rattle.relations.specs.Bases.{Divides, Precedes, letter_count};
 ghost use Rattle.normal_forms.specs.declared.TheConstants.{MOST_LETTERS};
 ghost use Rattle.normal_forms.specs.Reductions.{IsReduction, ReducesTo, AreOriented};
 ghost use Rattle.normal_forms.specs.Forms.{IsStandard};
+ghost use Rattle.normal_forms.specs.RuleTables.{IsRuleTable};
 
 use crate::rule::{Exponents, Rule};
+use crate::table::RuleTable;
 use presentations::LETTERS;
+use std::alloc::Allocator;
 
 /// How many letters the word has in all.
 pub fn letter_count(word: &Exponents) -> u32
@@ -62,14 +65,19 @@ fn replaced(rule: &Rule, word: &Exponents) -> Exponents
 }
 
 /// The word reduced until no relation can.
-pub fn reduced(rules: &[Rule], word: &Exponents) -> Exponents
+pub(crate) fn reduced<A: Allocator>(
+    rules: &[Rule],
+    table: &RuleTable<A>,
+    word: &Exponents,
+) -> Exponents
+    requires table { IsRuleTable rules.now table.now }
     requires oriented { AreOriented LETTERS rules.now }
     requires few { letter_count LETTERS word.now ≤ MOST_LETTERS }
     ensures standard { IsStandard LETTERS rules.now result }
     ensures reduces { ReducesTo LETTERS rules.now word.now result }
 {
     let mut reduced = *word;
-    while let Some(k) = first_rule(rules, &reduced) {
+    while let Some(k) = table.first_rule(rules, &reduced) {
         reduced = replaced(&rules[k], &reduced);
     }
     reduced

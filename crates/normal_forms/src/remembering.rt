@@ -5,13 +5,15 @@ ghost use Rattle.presentations.specs.Vectors.{plus, zeros, only};
 ghost use Rattle.presentations.specs.Congruences.{Related};
 ghost use Rattle.normal_forms.specs.Forms.{IsNormalForm, IsStandard};
 ghost use Rattle.normal_forms.specs.Reductions.{AreOriented};
+ghost use Rattle.normal_forms.specs.RuleTables.{IsRuleTable};
 ghost use Rattle.normal_forms.specs.Known.{known_at, AreStandard, AreKnown, IsStep, AreSteps};
 
 use crate::MOST_LETTERS;
 use crate::letters::{is_word, with_letter};
 use crate::listing::{place, standard_words};
-use crate::reducing::{first_rule, letter_count, reduced};
+use crate::reducing::{letter_count, reduced};
 use crate::rule::{Exponents, Rule};
+use crate::table::RuleTable;
 use allocation::Memory;
 use presentations::LETTERS;
 use std::alloc::{Allocator, Global};
@@ -34,23 +36,35 @@ impl<A: Allocator> Model for KnownForms<A> {
 }
 
 /// The normal form of the word, unless it has too many letters.
-fn form_of(rules: &[Rule], word: &Exponents) -> Option<Exponents>
-    requires { AreOriented LETTERS rules.now }
+fn form_of<A: Allocator>(
+    rules: &[Rule],
+    table: &RuleTable<A>,
+    word: &Exponents,
+) -> Option<Exponents>
+    requires table { IsRuleTable rules.now table.now }
+    requires oriented { AreOriented LETTERS rules.now }
     ensures { IfSome result (λ u. IsNormalForm LETTERS rules.now word.now u) }
 {
     if letter_count(word) > MOST_LETTERS {
         return None;
     }
-    Some(reduced(rules, word))
+    Some(reduced(rules, table, word))
 }
 
 /// The number of what element `e` becomes with letter `i` more, if it is in the list.
-fn step_of(rules: &[Rule], elements: &[Exponents], e: usize, i: usize) -> Option<u32>
-    requires { AreOriented LETTERS rules.now }
+fn step_of<A: Allocator>(
+    rules: &[Rule],
+    table: &RuleTable<A>,
+    elements: &[Exponents],
+    e: usize,
+    i: usize,
+) -> Option<u32>
+    requires table { IsRuleTable rules.now table.now }
+    requires oriented { AreOriented LETTERS rules.now }
     ensures { IfSome result (λ v. IsStep rules.now elements.now e i v) }
 {
     let more = with_letter(elements.get(e)?, i)?;
-    let form = form_of(rules, &more)?;
+    let form = form_of(rules, table, &more)?;
     let v = place(elements, &form);
     if !is_word(elements.get(v)?, &form) {
         return None;
@@ -59,46 +73,57 @@ fn step_of(rules: &[Rule], elements: &[Exponents], e: usize, i: usize) -> Option
 }
 
 /// The same for entry `k` of a list that has an entry for each element and each letter, if it is one of the first letters.
-fn step_at(rules: &[Rule], elements: &[Exponents], letters: usize, k: usize) -> Option<u32>
-    requires { AreOriented LETTERS rules.now }
+fn step_at<A: Allocator>(
+    rules: &[Rule],
+    table: &RuleTable<A>,
+    elements: &[Exponents],
+    letters: usize,
+    k: usize,
+) -> Option<u32>
+    requires table { IsRuleTable rules.now table.now }
+    requires oriented { AreOriented LETTERS rules.now }
     ensures { IfSome result (λ v. IsStep rules.now elements.now (k / LETTERS) (k % LETTERS) v) }
 {
     if k % LETTERS >= letters {
         return None;
     }
-    step_of(rules, elements, k / LETTERS, k % LETTERS)
+    step_of(rules, table, elements, k / LETTERS, k % LETTERS)
 }
 
 /// What all elements become with each of the first letters.
 fn steps_of<A: Allocator>(
     alloc: A,
     rules: &[Rule],
+    table: &RuleTable<A>,
     elements: &[Exponents],
     letters: usize,
 ) -> Result<Vec<Option<u32>, A>, Memory>
-    requires { AreOriented LETTERS rules.now }
+    requires table { IsRuleTable rules.now table.now }
+    requires oriented { AreOriented LETTERS rules.now }
     ensures { IfOk result (λ s. AreSteps rules.now elements.now s.items) }
 {
     let mut steps = Vec::new(alloc);
     for k in 0..elements.len().saturating_mul(LETTERS) {
-        steps.push(step_at(rules, elements, letters, k))?;
+        steps.push(step_at(rules, table, elements, letters, k))?;
     }
     Ok(steps)
 }
 
 /// Whether the word is seen to be standard.
-fn is_standard(rules: &[Rule], word: &Exponents) -> bool
+fn is_standard<A: Allocator>(rules: &[Rule], table: &RuleTable<A>, word: &Exponents) -> bool
+    requires { IsRuleTable rules.now table.now }
     ensures { IsTrue result → IsStandard LETTERS rules.now word.now }
 {
-    first_rule(rules, word).is_none()
+    table.first_rule(rules, word).is_none()
 }
 
 /// Whether all words are.
-fn are_standard(rules: &[Rule], elements: &[Exponents]) -> bool
+fn are_standard<A: Allocator>(rules: &[Rule], table: &RuleTable<A>, elements: &[Exponents]) -> bool
+    requires { IsRuleTable rules.now table.now }
     ensures { IsTrue result → AreStandard rules.now elements.now }
 {
     for k in 0..elements.len() {
-        if !is_standard(rules, &elements[k]) {
+        if !is_standard(rules, table, &elements[k]) {
             return false;
         }
     }
@@ -120,17 +145,19 @@ impl<A: Allocator + Copy> KnownForms<A> {
     pub(crate) fn of(
         alloc: A,
         rules: &[Rule],
+        table: &RuleTable<A>,
         letters: usize,
         most: usize,
     ) -> Result<Option<KnownForms<A>>, Memory>
-        requires { AreOriented LETTERS rules.now }
+        requires table { IsRuleTable rules.now table.now }
+        requires oriented { AreOriented LETTERS rules.now }
         ensures { IfOk result (λ o. IfSome o (λ k. AreKnown rules.now k)) }
     {
-        let elements = standard_words(alloc, rules, letters, most)?;
-        if !is_first(&elements) || !are_standard(rules, &elements) {
+        let elements = standard_words(alloc, rules, table, letters, most)?;
+        if !is_first(&elements) || !are_standard(rules, table, &elements) {
             return Ok(None);
         }
-        let steps = steps_of(alloc, rules, &elements, letters)?;
+        let steps = steps_of(alloc, rules, table, &elements, letters)?;
         Ok(Some(KnownForms { elements, steps }))
     }
 }

@@ -42,7 +42,7 @@ fn nim<A: Allocator + Copy>(
             period: 1,
         },
     ];
-    let basis = match Basis::new(Vec::from_slice(alloc, &rules).ok()?) {
+    let basis = match Basis::new(alloc, Vec::from_slice(alloc, &rules).ok()?) {
         Ok(basis) => basis,
         Err(_) => return None,
     };

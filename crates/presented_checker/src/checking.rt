@@ -89,7 +89,7 @@ fn with_basis<A: SmallAllocator + Copy>(
     if relations.len() > MOST_RELATIONS {
         return Err(InfiniteRefusal::Limit);
     }
-    match Basis::new(relations) {
+    match Basis::new(alloc, relations) {
         Ok(basis) => {
             let basis = remembering(alloc, basis, letters.len())?;
             Ok(Presented {
@@ -106,6 +106,7 @@ fn with_basis<A: SmallAllocator + Copy>(
         Err(BasisFault::Pair) => Err(InfiniteRefusal::Law),
         Err(BasisFault::Order) => Err(InfiniteRefusal::Law),
         Err(BasisFault::Long) => Err(InfiniteRefusal::Limit),
+        Err(BasisFault::Memory) => Err(InfiniteRefusal::Memory),
     }
 }
 

@@ -77,7 +77,22 @@ fn told(code: &Code, bounds: PartsBounds, found: FoundPresentation) -> Said
     }
 }
 
-/// Looks for the presentation of a certificate, and says it, or why none was found.
+/// Looks for a presentation by the code alone, and says it, or why none was found of the certificate.
+fn learned_instead(
+    alloc: Global,
+    code: &Code,
+    bounds: PartsBounds,
+    why: Unpresented,
+) -> Result<Said, Memory>
+    ensures { IfOk result (λ s. FindsPresented code.now bounds s.text.items s.succeeds) }
+{
+    match present_code(alloc, code, bounds.heaps as usize)? {
+        Some(found) => Ok(told(code, bounds, found)),
+        None => unpresented(alloc, code, bounds, why),
+    }
+}
+
+/// Looks for the presentation of a certificate, or else for one by the code alone, and says it, or why none was found.
 fn presentation(
     alloc: Global,
     code: &Code,
@@ -89,12 +104,12 @@ fn presentation(
 {
     let found = match present_infinite(alloc, shown)? {
         Ok(found) => found,
-        Err(why) => return unpresented(alloc, code, bounds, why),
+        Err(why) => return learned_instead(alloc, code, bounds, why),
     };
     let is_within = found.quotient.heaps() as u32 <= bounds.heaps;
     match found.quotient.order() {
         None if is_within => Ok(told(code, bounds, found)),
-        _ => unpresented(alloc, code, bounds, Unpresented::Refused),
+        _ => learned_instead(alloc, code, bounds, Unpresented::Refused),
     }
 }
 
@@ -108,9 +123,9 @@ fn learned(alloc: Global, code: &Code, bounds: PartsBounds, why: Unfound) -> Res
     }
 }
 
-/// Looks for a certificate with tracks of the code, and then for the presentation of its quotient; and if there is no
-/// such certificate, though some part seems to have an infinite quotient, for a presentation by the code alone. Says
-/// what was found, or why nothing was.
+/// Looks for a certificate with tracks of the code, and then for the presentation of its quotient; and if one of them isn't
+/// found, though some part seems to have an infinite quotient, for a presentation by the code alone. Says what was found,
+/// or why nothing was.
 pub(crate) fn presented(alloc: Global, code: &Code, bounds: PartsBounds) -> Result<Said, Memory>
     ensures { IfOk result (λ s. FindsPresented code.now bounds s.text.items s.succeeds) }
 {

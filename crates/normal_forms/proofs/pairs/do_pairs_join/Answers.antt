@@ -5,7 +5,7 @@ use Rattle.normal_forms.proofs.Sides.{pairs-from}
 use Rattle.normal_forms.proofs.pairs.do_pairs_join.Goals as goal
 
 pub loop-i-preserved : goal.loop-i-preserved
-loop-i-preserved c = λ j k d lt below.
+loop-i-preserved g c = λ j k d lt below.
     elim (cases_eq j c.loop-i.i) [
       | inl same ↦
           rw same (c.join_before.ensures.joins c.if-not-join_before.false k d (omega (arith, below, same)))
@@ -13,14 +13,14 @@ loop-i-preserved c = λ j k d lt below.
     ]
 
 pub returns-then-not-join_before : goal.returns-then-not-join_before
-returns-then-not-join_before c = (
+returns-then-not-join_before g c = (
   λ t. absurd (false≢true t),
   λ are.
       sym c.if-not-join_before.true ∙ c.join_before.ensures.fails are,
 )
 
 pub returns : goal.returns
-returns c = (
+returns g c = (
   λ t. record {
     oriented = c.requires.oriented;
     joined =

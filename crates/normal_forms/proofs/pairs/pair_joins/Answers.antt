@@ -1,13 +1,16 @@
-use Rattle.std.proofs.Common.{ap, sym, subst}
+use Rattle.std.proofs.Common.{◌≤◌, ap, sym, subst, arith}
+use Rattle.relations.specs.Bases.{letter_count}
+use Rattle.normal_forms.specs.declared.TheConstants.{MOST_LEFT_LETTERS}
 use Rattle.presentations.specs.declared.TheConstants.{LETTERS}
 use Rattle.normal_forms.specs.Reductions.{ReducesTo, side_of}
+use Rattle.std.proofs.lemmas.List.Elements.{All-contains}
 use Rattle.normal_forms.proofs.Steps.{rule-falls, left-long, right-long}
 use Rattle.normal_forms.proofs.Sides.{AreCoprime, coprime-join, joins-at}
 use Rattle.normal_forms.proofs.Confluence.{sides-agree}
 use Rattle.normal_forms.proofs.pairs.pair_joins.Goals as goal
 
 pub returns-then-are_coprime-clause-joins : goal.returns-then-are_coprime-clause-joins
-returns-then-are_coprime-clause-joins c =
+returns-then-are_coprime-clause-joins g c =
     let rules = c.args.rules.now in
     let r = c.index-rules-i.result in
     let s = c.index-rules-k.result in
@@ -28,17 +31,41 @@ returns-then-are_coprime-clause-joins c =
     ) apart)
 
 pub side-requires-clause-falls : goal.side-requires-clause-falls
-side-requires-clause-falls c =
+side-requires-clause-falls g c =
     rule-falls LETTERS c.args.rules.now c.requires.oriented c.index-rules-i.result
     (c.args.i, c.requires.i_in, sym c.index-rules-i.is)
 
 pub side-requires-2-clause-falls : goal.side-requires-2-clause-falls
-side-requires-2-clause-falls c =
+side-requires-2-clause-falls g c =
     rule-falls LETTERS c.args.rules.now c.requires.oriented c.index-rules-k.result
     (c.args.k, c.requires.k_in, sym c.index-rules-k.is)
 
+pub side-requires-clause-few : goal.side-requires-clause-few
+side-requires-clause-few g c =
+    let one =
+    All-contains (λ r. letter_count LETTERS r.0 ≤ MOST_LEFT_LETTERS) c.args.rules.now c.index-rules-i.result
+    c.requires.short (c.args.i, c.requires.i_in, sym c.index-rules-i.is)
+    in
+    let other =
+    All-contains (λ r. letter_count LETTERS r.0 ≤ MOST_LEFT_LETTERS) c.args.rules.now c.index-rules-k.result
+    c.requires.short (c.args.k, c.requires.k_in, sym c.index-rules-k.is)
+    in
+    omega (arith, one, other)
+
+pub side-requires-2-clause-few : goal.side-requires-2-clause-few
+side-requires-2-clause-few g c =
+    let one =
+    All-contains (λ r. letter_count LETTERS r.0 ≤ MOST_LEFT_LETTERS) c.args.rules.now c.index-rules-i.result
+    c.requires.short (c.args.i, c.requires.i_in, sym c.index-rules-i.is)
+    in
+    let other =
+    All-contains (λ r. letter_count LETTERS r.0 ≤ MOST_LEFT_LETTERS) c.args.rules.now c.index-rules-k.result
+    c.requires.short (c.args.k, c.requires.k_in, sym c.index-rules-k.is)
+    in
+    omega (arith, one, other)
+
 pub returns-clause-joins : goal.returns-clause-joins
-returns-clause-joins c =
+returns-clause-joins g c =
     let rules = c.args.rules.now in
     let r = c.index-rules-i.result in
     let s = c.index-rules-k.result in
@@ -56,7 +83,7 @@ returns-clause-joins c =
     })
 
 pub returns-clause-fails : goal.returns-clause-fails
-returns-clause-fails c =
+returns-clause-fails g c =
     let rules = c.args.rules.now in
     let r = c.index-rules-i.result in
     let s = c.index-rules-k.result in

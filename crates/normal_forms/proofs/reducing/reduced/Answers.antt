@@ -6,22 +6,22 @@ use Rattle.normal_forms.proofs.Steps.{rule-falls, reduces-trans, step-falls, red
 use Rattle.normal_forms.proofs.reducing.reduced.Goals as goal
 
 pub loop-k-init : goal.loop-k-init
-loop-k-init c = record { reduces = Stays c.args.word.now; few = c.requires.few }
+loop-k-init g c = record { reduces = Stays c.args.word.now; few = c.requires.few }
 
 pub replaced-reduced-requires-clause-falls : goal.replaced-reduced-requires-clause-falls
-replaced-reduced-requires-clause-falls c =
+replaced-reduced-requires-clause-falls g c =
     let e = c.in-Some.ensures in
     rule-falls LETTERS c.args.rules.now c.requires.oriented c.index-rules-k.result
     (c.in-Some.k, e.0, sym c.index-rules-k.is)
 
 pub loop-k-smaller : goal.loop-k-smaller
-loop-k-smaller c =
+loop-k-smaller g c =
     let e = c.in-Some.ensures in
     step-falls LETTERS c.args.rules.now c.requires.oriented c.index-rules-k.result c.loop-k.reduced
     c.replaced-reduced.result (c.in-Some.k, e.0, sym c.index-rules-k.is) c.replaced-reduced.ensures
 
 pub loop-k-preserved : goal.loop-k-preserved
-loop-k-preserved c =
+loop-k-preserved g c =
     let e = c.in-Some.ensures in
     let rule = c.index-rules-k.result in
     let few =
@@ -40,7 +40,7 @@ loop-k-preserved c =
     }
 
 pub returns-clause-standard : goal.returns-clause-standard
-returns-clause-standard c = record {
+returns-clause-standard g c = record {
   long =
       reduces-long LETTERS c.args.rules.now c.requires.oriented c.args.word.now c.loop-k.reduced
       c.told-word c.loop-k.invariant.reduces;

@@ -5,4 +5,4 @@ use Rattle.normal_forms.specs.Known.{known_at}
 use Rattle.normal_forms.proofs.remembering.are_standard.Given as goal
 
 abbrev pub invariant-loop-k : goal.invariant-loop-k
-invariant-loop-k l = (j : ℕ) → j < l.k → IsStandard LETTERS l.rules (known_at l.elements j)
+invariant-loop-k g l = (j : ℕ) → j < l.k → IsStandard LETTERS l.rules (known_at l.elements j)
