@@ -88,21 +88,51 @@ fn learned<A: SmallAllocator + Copy>(
     Ok(Err(Unlearned::Refused))
 }
 
-/// Looks for a presentation of the heaps that plays of a heap lead to, and then of all heaps up to it.
-fn learned_at<A: SmallAllocator + Copy>(
+/// Looks for a presentation of the heaps that plays of a heap lead to; and then of all heaps up to it, as long as this
+/// is open. It is closed where it fails, since later lists of all heaps have these.
+fn found_at<A: SmallAllocator + Copy>(
     alloc: A,
     reached: &mut Learner<A>,
     all: &mut Learner<A>,
     last: usize,
-) -> Result<Result<FoundPresentation<A>, Unlearned>, Memory>
-    ensures accepted { IfOk result (λ found. IfOk found
+    is_open: &mut bool,
+) -> Result<Option<FoundPresentation<A>>, Memory>
+    ensures accepted { IfOk result (λ found. IfSome found
         (λ f. SpellsPresented f.text.items f.quotient.said × IsRight f.quotient)) }
-    ensures endless { IfOk result (λ found. IfOk found (λ f. f.quotient.order ≡ None)) }
+    ensures endless { IfOk result (λ found. IfSome found (λ f. f.quotient.order ≡ None)) }
 {
-    match learned(alloc, reached, last, Scope::Reached)? {
-        Ok(found) => Ok(Ok(found)),
-        Err(Unlearned::Finite) => learned(alloc, all, last, Scope::All),
-        Err(why) => Ok(Err(why)),
+    if let Ok(found) = learned(alloc, reached, last, Scope::Reached)? {
+        return Ok(Some(found));
+    }
+    if !*is_open {
+        return Ok(None);
+    }
+    match learned(alloc, all, last, Scope::All)? {
+        Ok(found) => Ok(Some(found)),
+        Err(why) => {
+            *is_open = why == Unlearned::Finite;
+            Ok(None)
+        }
+    }
+}
+
+/// What was found, if it is of this code and of a list of at most so many heaps.
+fn fitting<A: SmallAllocator>(
+    code: &Code,
+    heaps: usize,
+    found: FoundPresentation<A>,
+) -> Option<FoundPresentation<A>>
+    ensures same { IfSome result (λ f. f ≡ found) }
+    ensures code { IfSome result (λ f. f.quotient.said.code ≡ code.now) }
+    ensures part { IfSome result (λ f. f.quotient.said.period ≡ 0) }
+    ensures few { IfSome result (λ f. f.quotient.said.heaps ≤ heaps) }
+{
+    let is_part = found.quotient.period() == 0;
+    let is_few = found.quotient.heaps() as usize <= heaps;
+    if is_part && is_few && *found.quotient.code() == *code {
+        Some(found)
+    } else {
+        None
     }
 }
 
@@ -123,19 +153,11 @@ pub fn present_code<A: SmallAllocator + Copy>(
 {
     let mut reached = Learner::new(alloc, code, LEARNING_WORK);
     let mut all = Learner::new(alloc, code, LEARNING_WORK);
+    let mut is_open = true;
     for before in 0..heaps {
         let last = before.saturating_add(1);
-        match learned_at(alloc, &mut reached, &mut all, last)? {
-            Ok(found) => {
-                let is_part = found.quotient.period() == 0;
-                let is_few = found.quotient.heaps() as usize <= heaps;
-                if is_part && is_few && *found.quotient.code() == *code {
-                    return Ok(Some(found));
-                }
-                return Ok(None);
-            }
-            Err(Unlearned::Finite) => {}
-            Err(_) => return Ok(None),
+        if let Some(found) = found_at(alloc, &mut reached, &mut all, last, &mut is_open)? {
+            return Ok(fitting(code, heaps, found));
         }
     }
     Ok(None)
