@@ -10,7 +10,6 @@ from theorems import Text
 from script import root
 
 SAMPLES = [f"certificates/{name}.mqc" for name in ("0.33", "0.75", "0.75_heaps_8", "0.b", "0.77", "0.71")]
-INFINITE_SAMPLES = [f"atlas/infinite/{name}.mqi" for name in ("0.354_heaps_5", "4.77_heaps_6", "0.005_heaps_18")]
 WHOLE_SAMPLES = ["certificates/0.26.mqw", "certificates/0.734.mqw", "atlas/whole/0.355.mqw", "certificates/0.f3.mqw"]
 PRESENTED_SAMPLES = ["certificates/0.75_heaps_22.mqp"]
 COUNT = 200

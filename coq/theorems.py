@@ -22,13 +22,11 @@ sys.path.insert(0, str(here.parent / "scripts"))
 LONGEST_NAME = 40
 LETTERS = "abcdefghijklmnopqrstuvwxyz"
 CLOSED = "Closed under the global context"
-# What a text has, as coq/Faults.v names it; as coq/TracksFaults.v does of a text with tracks, after "No"; and what
-# coq/PresentedText.v says of a presentation
+# What a text has, as coq/Faults.v names it; and what coq/PresentedText.v says of a presentation
 FAULTS = ("Text", "Law", "Word", "Order", "Period", "Apart", "Outcome")
-FAULTS_OF_TRACKS = ("Text", "Law", "Order", "Outcome", "Part", "Idle", "Undecided", "Ray")
 ANSWERS_OF_PRESENTATIONS = {"Text": "Unspelled", "Law": "Unlawful", "Part": "Leaving"}
 # The faults of texts by their files' endings
-FAULTS_OF = {".mqi": FAULTS_OF_TRACKS, ".mqp": tuple(ANSWERS_OF_PRESENTATIONS)}
+FAULTS_OF = {".mqp": tuple(ANSWERS_OF_PRESENTATIONS)}
 
 
 class Stated(Protocol):
@@ -73,16 +71,9 @@ class Text:
             return ("WholeText", "Whole")
         if self.is_presentation:
             return ("PresentedText",)
-        if self.is_infinite:
-            return ("TracksFaults", "Infinite", "Shown")
         if self.fault:
             return ("Faults", "Answers")
         return ("Main",) if self.right else ("Converse",)
-
-    @property
-    def is_infinite(self) -> bool:
-        """A text with tracks: what it shows is that a quotient is infinite."""
-        return self.text.startswith(b"mqi ")
 
     @property
     def is_whole(self) -> bool:
@@ -112,7 +103,7 @@ class Text:
             return "whole_" + self.name
         if self.is_presentation:
             return "presentation_" + self.name
-        return ("infinite_" if self.is_infinite else "quotient_of_") + self.name
+        return "quotient_of_" + self.name
 
     def line(self, name: str, otherwise: str) -> str:
         found = re.search(rf"^{name} (.*)$", self.text.decode("latin-1"), re.M)
@@ -129,7 +120,7 @@ class Text:
     @property
     def last_heap(self) -> int:
         """0 for a full certificate."""
-        if self.is_infinite or self.is_presentation:
+        if self.is_presentation:
             return number(self.line("heaps", "0"))
         return max(number(self.line("start", "1")) - 1, 0) if self.line("period", "1") == "0" else 0
 
@@ -140,36 +131,15 @@ class Text:
             return text + self.source_of_whole()
         if self.is_presentation:
             return text + self.source_of_presentation()
-        if not self.right and self.is_infinite:
-            return text + self.source_of_tracks_fault()
         if self.fault:
             said = f"Theorem {self.theorem} : is_true_of text_of_{self.name} {self.fault}.\n"
             return text + said + f"Proof. apply verdict_right. vm_cast_no_check (eq_refl {self.fault}). Time Qed.\n"
         if not self.right:
             said = f"Theorem {self.theorem} : forall k g, ~ certifies text_of_{self.name} k g.\n"
             return text + said + "Proof. apply refused_right. vm_cast_no_check (eq_refl false). Time Qed.\n"
-        digits = self.digits
-        if self.is_infinite:
-            game = f"[{digits}] {self.last_heap}"
-            said = f"Theorem {self.theorem} : infinite {game} /\\ no_finite_quotient {game}.\n"
-            shown = f"(eq_refl (Some ([{digits}], {self.last_heap})))"
-            proof = f"apply (shown_by_right text_of_{self.name}). vm_cast_no_check {shown}"
-            return text + said + f"Proof. {proof}. Time Qed.\n"
         kind = f"(UpTo {self.last_heap})" if self.last_heap else "Whole"
-        said = f"Theorem {self.theorem} : certifies text_of_{self.name} {kind} [{digits}].\n"
+        said = f"Theorem {self.theorem} : certifies text_of_{self.name} {kind} [{self.digits}].\n"
         return text + said + "Proof. apply check_sound. vm_cast_no_check (eq_refl true). Time Qed.\n"
-
-    def source_of_tracks_fault(self) -> str:
-        """The theorem of a text with tracks that is refused: that it has this fault, or where none is named the one
-        that Coq finds."""
-        if self.fault:
-            said = f"Theorem {self.theorem} : is_true_of_tracks text_of_{self.name} No{self.fault}.\n"
-            return said + f"Proof. apply has_tracks_fault. vm_cast_no_check (eq_refl No{self.fault}). Time Qed.\n"
-        answer = f"answer_of_{self.name}"
-        found = f"Definition {answer} := Eval vm_compute in tracks_verdict text_of_{self.name}.\n"
-        said = f"Theorem {self.theorem} : is_true_of_tracks text_of_{self.name} {answer} /\\ {answer} <> Shows.\n"
-        proof = f"split; [apply has_tracks_fault; vm_cast_no_check (eq_refl {answer}) | discriminate]"
-        return found + said + f"Proof. {proof}. Time Qed.\n"
 
     def source_of_presentation(self) -> str:
         """The theorem of a text of a presentation."""
@@ -259,11 +229,11 @@ def fault_of(file: pathlib.Path) -> str:
 
 def in_folder(folder: pathlib.Path, right: bool = True) -> list[Text]:
     """The certificates of a folder, by their files' names, without presentations that Coq doesn't take. Those of refused
-    ones begin with their fault."""
+    ones begin with their fault. (A presentation that is undecided may be right.)"""
     texts = [
         Text(re.sub(r"\W", "_", file.stem), file.read_bytes(), right, "" if right else fault_of(file))
         for file in sorted(folder.iterdir())
-        if file.suffix in (".mqc", ".mqi", ".mqw", ".mqp")
+        if file.suffix in (".mqc", ".mqw", ".mqp") and not file.stem.startswith("undecided")
     ]
     return [it for it in texts if not it.is_left_out]
 

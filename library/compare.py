@@ -28,8 +28,10 @@ rust = "rust/target/release/misere_positions"
 SIX = ("0.3", "0.33", "0.75", "0.b", "0.75_heaps_8", "0.8_heaps_4")
 # Of each quotient: all positions, those that the program is asked, those that a search settles, those of each thread
 POSITIONS, PLAYED, SMALL, ASKED, THREADS = 16_700, 170, 50, 500, 8
-# Of each infinite quotient
+# Of each of these infinite quotients
 INFINITE = 2000
+PARTS = ("0.31011_heaps_5.mqp", "0.354_heaps_5.mqp", "0.404_heaps_12.mqp")
+INFINITE_ONES = (*PARTS, "0.26.mqw", "0.734.mqw", "0.f3.mqw", "4.7.mqw")
 # How large the heaps of a whole game are
 LAST_OF_WHOLE = 2000
 FOUND = ("0.3", "0.33", "0.75")
@@ -161,10 +163,9 @@ def compare_infinite(program: str, file: pathlib.Path) -> None:
 
 def compare_refused(program: str, file: pathlib.Path) -> None:
     """What is told of a refused sample."""
-    is_infinite = file.suffix == ".mqi"
-    text = printed(program, "infinite" if is_infinite else "check", file)
+    text = printed(program, "check" if file.suffix == ".mqc" else "infinite", file)
     try:
-        (misere.check_infinite if is_infinite else misere.check)(file.read_bytes())
+        misere.verify(file.read_bytes())
     except misere.Refused as refused:
         assert text.startswith(f"no {refused.number} {refused.name}\n"), (file, text)
         if refused.position is not None:
@@ -255,17 +256,16 @@ def main() -> None:
     random.seed(49)
     program = sys.argv[1] if len(sys.argv) > 1 else str(here.parent / "crates/misere/out/misere")
     compared = [compare_quotient(program, name) for name in SIX]
-    infinite = sorted(samples.glob("*.mqi"))
-    for file in infinite:
-        compare_infinite(program, file)
-    refused = sorted((samples / "refused").glob("*.mq[ci]"))
+    for name in INFINITE_ONES:
+        compare_infinite(program, samples / name)
+    refused = sorted((samples / "refused").glob("*.mq[cpw]"))
     for file in refused:
         compare_refused(program, file)
     compare_finder(program)
     compare_tables(program)
     compare_threads(compared)
     asked = f"{POSITIONS * len(SIX)} positions of {len(SIX)} quotients by C, Python and Rust, {PLAYED * len(SIX)} by the program"
-    more = f"{INFINITE} of each of {len(infinite)} infinite ones"
+    more = f"{INFINITE} of each of {len(INFINITE_ONES)} infinite ones"
     print(f"{asked}, {more}, {len(refused)} refused samples, {THREADS} threads over each quotient: all agree")
 
 

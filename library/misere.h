@@ -24,7 +24,7 @@ extern "C" {
 #endif
 
 /* The version of these calls, which misere_version answers. It rises if one of them changes. */
-#define MISERE_VERSION 1
+#define MISERE_VERSION 2
 
 /* What the closure of a check may keep, if nobody asks for more or less. */
 #define MISERE_LIMIT 100000
@@ -50,11 +50,10 @@ enum {
     MISERE_NOT_DESCRIBED = 16, /* the quotient is not described within the bounds, or there is no such text of it */
     MISERE_NOT_OPEN = 17,     /* nothing is opened there */
     MISERE_BEYOND = 23,       /* the certificate does not speak of all the heaps */
-    /* refusals of infinite quotients, beside 1, 2, 4, 7, 8 and 9 */
+    /* refusals of whole games and presentations, beside 1, 2, 7, 8 and 9 */
     MISERE_LEAVES = 31,       /* an option of a heap has a heap of which the certificate does not speak */
-    MISERE_IDLE = 32,         /* an element is P at a place that no position has with it */
     MISERE_UNDECIDED = 33,    /* the rule was not seen to hold, and no position was found at which it fails */
-    MISERE_RAY = 34           /* the claim is right, but its positions do not show an infinite quotient */
+    MISERE_FINITE = 34        /* the quotient is finite: `misere infinite` refuses one, no call does */
 };
 
 enum { MISERE_P = 0, MISERE_N = 1 };
@@ -144,20 +143,18 @@ uint32_t misere_solve_why(const uint8_t *code, size_t length, uint32_t limit, ui
 #define MISERE_INFINITE_HEAPS 64
 
 /* Looks for a text of an infinite quotient of the game of a code, as `misere solve CODE --infinite` does: of
- * the whole game, or else one with tracks of the heaps 1 to some heap up to `heaps`. It writes the text,
- * which is accepted and which misere_infinite_open opens, and to *count how many bytes it has. With
- * MISERE_GAVE_UP it writes the line that says how the search was given up, such as "gave up: each part to
- * heap 64 seems to have a finite quotient", with its end. It needs room too; with MISERE_NO_ROOM it writes
- * *count alone. The limit is 1 to 1000000, the heaps 1 to 1024, the order 2 to 4096. Some searches take a
- * minute. */
-uint32_t misere_solve_infinite(const uint8_t *code, size_t length, uint32_t limit, uint32_t heaps,
-                               uint32_t order, uint8_t *told, size_t room, uint64_t *count);
+ * the whole game, or else a presentation of some of the heaps 1 to `heaps`. It writes the text, which is
+ * accepted and which misere_infinite_open opens, and to *count how many bytes it has. With MISERE_GAVE_UP it
+ * writes the line that says how the search was given up, such as "gave up: each part to heap 64 seems to have
+ * a finite quotient", with its end. It needs room too; with MISERE_NO_ROOM it writes *count alone. The heaps
+ * are 1 to 1024. Some searches take minutes. */
+uint32_t misere_solve_infinite(const uint8_t *code, size_t length, uint32_t heaps, uint8_t *told, size_t room,
+                               uint64_t *count);
 
-/* As misere_solve_infinite, but the quotient is presented by generators and relations, as `misere solve CODE
- * --infinite --presented` does: of the heaps 1 to some heap up to `heaps`. With MISERE_GAVE_UP it writes the
- * line that says how. */
-uint32_t misere_solve_presented(const uint8_t *code, size_t length, uint32_t limit, uint32_t heaps,
-                                uint32_t order, uint8_t *told, size_t room, uint64_t *count);
+/* As misere_solve_infinite, but no text of the whole game is looked for, as by `misere solve CODE --infinite
+ * --presented`. */
+uint32_t misere_solve_presented(const uint8_t *code, size_t length, uint32_t heaps, uint8_t *told, size_t room,
+                                uint64_t *count);
 
 /* Certifies a quotient of your own, in any numbering of its elements. The bytes are the text of its
  * table, as `misere certify` reads it. These are its lines, each with its end, and beside them what they
@@ -244,20 +241,18 @@ uint32_t misere_opened_answers(misere_opened *opened, const uint64_t *heaps, siz
 uint32_t misere_opened_describe(misere_opened *opened, uint32_t output, uint32_t form, uint8_t *told,
                                 size_t room, uint64_t *count);
 
-/* Whether the bytes are an accepted text of an infinite quotient: it tells who wins each position of its
- * heaps, and their misere quotient is infinite. They are a certificate with tracks, which begins with
- * mqi 1, or a text of a whole game, mqw 1, of which each heap is one. MISERE_LIMIT is the limit of the
- * first here too. Or they are a presentation by generators and relations, mqp 1: it is the misere quotient
- * of its heaps, which may be infinite or finite, as misere_infinite_order tells. */
-uint32_t misere_check_infinite(const uint8_t *bytes, size_t length, uint32_t limit);
+/* Whether the bytes are an accepted text of one of two kinds. A text of a whole game begins with mqw 1: it
+ * tells who wins each position of the game, whose misere quotient is infinite. A presentation by generators
+ * and relations begins with mqp 1: it is the misere quotient of its heaps, which may be infinite or finite, as
+ * misere_infinite_order tells. All other bytes are refused with MISERE_TEXT. */
+uint32_t misere_check_infinite(const uint8_t *bytes, size_t length);
 
 /* Checks the bytes as misere_check_infinite does. With MISERE_OUTCOME it writes to *count how many heaps
  * the position has at which the rule fails, and, if there is room for them, to told which. */
-uint32_t misere_infinite_failure(const uint8_t *bytes, size_t length, uint32_t limit,
-                                 uint64_t *told, size_t room, uint64_t *count);
+uint32_t misere_infinite_failure(const uint8_t *bytes, size_t length, uint64_t *told, size_t room,
+                                 uint64_t *count);
 
-/* One owner of what such bytes show, an infinite quotient or a presentation. What is said of misere_opened holds of it, with its own
- * calls. */
+/* One owner of what such bytes show. What is said of misere_opened holds of it, with its own calls. */
 typedef struct {
     uint64_t full; /* 0 where nothing is opened */
     void *kept;
@@ -266,8 +261,7 @@ typedef struct {
 #define MISERE_INFINITE_CLOSED { 0, 0 }
 
 /* As misere_open, misere_share and misere_close. */
-uint32_t misere_infinite_open(const uint8_t *bytes, size_t length, uint32_t limit,
-                              misere_infinite *told);
+uint32_t misere_infinite_open(const uint8_t *bytes, size_t length, misere_infinite *told);
 uint32_t misere_infinite_share(misere_infinite *opened, misere_infinite *told);
 uint32_t misere_infinite_close(misere_infinite *opened);
 

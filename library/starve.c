@@ -35,8 +35,8 @@ static struct {
     uint8_t text[1 << 16];
 } told, untold;
 
-/* That of the certificate, if it is accepted, of a finite quotient or of an infinite one. Else every call on it answers
- * MISERE_NOT_OPEN. */
+/* That of the text, if it is accepted: a certificate of a finite quotient; or one of a whole game, or a presentation. Else
+ * every call on it answers MISERE_NOT_OPEN. */
 static misere_opened opened = MISERE_CLOSED;
 static misere_infinite infinite = MISERE_INFINITE_CLOSED;
 
@@ -57,10 +57,10 @@ static uint32_t solve_why(void) {
     return misere_solve_why((const uint8_t *)"0.4", 3, 1000, 4, MISERE_WHOLE, 2, 8, told.text, sizeof told.text, &told.count);
 }
 static uint32_t solve_infinite(void) {
-    return misere_solve_infinite((const uint8_t *)"0.3", 3, 1000, 2, 8, told.text, sizeof told.text, &told.count);
+    return misere_solve_infinite((const uint8_t *)"0.3", 3, 2, told.text, sizeof told.text, &told.count);
 }
 static uint32_t solve_presented(void) {
-    return misere_solve_presented((const uint8_t *)"0.3", 3, 1000, 2, 8, told.text, sizeof told.text, &told.count);
+    return misere_solve_presented((const uint8_t *)"0.3", 3, 2, told.text, sizeof told.text, &told.count);
 }
 static uint32_t certify(void) {
     static const char table[] = "table 1\ncode 0.3\norder 2\nstart 1\nperiod 2\nheaps 0 1\nportion 0\nrow 1 0\nrow 0 1\nend\n";
@@ -118,13 +118,13 @@ static uint32_t opened_describe(void) {
     return misere_opened_describe(&opened, MISERE_LATEX, MISERE_SHORT, told.text, sizeof told.text, &told.count);
 }
 
-static uint32_t check_infinite(void) { return misere_check_infinite(bytes, length, MISERE_LIMIT); }
+static uint32_t check_infinite(void) { return misere_check_infinite(bytes, length); }
 static uint32_t infinite_failure(void) {
-    return misere_infinite_failure(bytes, length, MISERE_LIMIT, told.heaps, 8, &told.count);
+    return misere_infinite_failure(bytes, length, told.heaps, 8, &told.count);
 }
 static uint32_t infinite_open(void) {
     misere_infinite one = MISERE_INFINITE_CLOSED;
-    uint32_t status = misere_infinite_open(bytes, length, MISERE_LIMIT, &one);
+    uint32_t status = misere_infinite_open(bytes, length, &one);
     stop_unless(misere_infinite_close(&one) == (status ? MISERE_NOT_OPEN : MISERE_YES), "an owner isn't as its status says");
     return status;
 }
@@ -138,7 +138,7 @@ static uint32_t infinite_open_over(void) {
     misere_infinite one = MISERE_INFINITE_CLOSED;
     uint32_t number, status = misere_infinite_share(&infinite, &one);
     if (status) return status;
-    status = misere_infinite_open(bytes, length, MISERE_LIMIT, &one);
+    status = misere_infinite_open(bytes, length, &one);
     stop_unless(!misere_infinite_outcome(&one, heaps, 12, &number) && !misere_infinite_close(&one), "what stays open isn't told");
     return status;
 }
@@ -234,7 +234,7 @@ int main(int argc, char **argv) {
     memset(&untold, 77, sizeof untold);
     long before = held;
     uint32_t status = misere_open(bytes, length, MISERE_LIMIT, &opened);
-    uint32_t infinite_status = misere_infinite_open(bytes, length, MISERE_LIMIT, &infinite);
+    uint32_t infinite_status = misere_infinite_open(bytes, length, &infinite);
     for (size_t call = 0; call < CALLS; call++)
         if (!starve(call)) return 1;
     stop_unless(misere_close(&opened) == (status ? MISERE_NOT_OPEN : MISERE_YES), "it isn't closed");

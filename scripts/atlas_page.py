@@ -202,7 +202,7 @@ class Page:
         full = [entry for entry in self.entries if not entry.heaps]
         counts = {"all": len(self.entries), "full": len(full), "partial": len(self.entries) - len(full)}
         counts["octal"] = sum(not is_hexadecimal(entry.code) for entry in full)
-        infinite = {file.name.split("_")[0] for file in (self.root / "atlas/infinite").glob("*.mq[ip]")}
+        infinite = {file.name.split("_")[0] for file in (self.root / "atlas/infinite").glob("*.mqp")}
         octal = sum(not is_hexadecimal(code) for code in infinite)
         counts |= {"infinite": len(infinite), "infinite_octal": octal, "infinite_hexadecimal": len(infinite) - octal}
         counts["partial_octal"] = sum(bool(it.heaps) and not is_hexadecimal(it.code) for it in self.entries)

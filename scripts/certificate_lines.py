@@ -48,9 +48,9 @@ def words_of(certificate: str) -> dict[str, str]:
     return {name: words for name, words in lines}
 
 
-def is_infinite(certificate: str) -> bool:
-    """Whether a certificate says that it is one of an infinite quotient."""
-    return certificate.startswith("mqi ")
+def is_presentation(certificate: str) -> bool:
+    """Whether a text says that it is a presentation. Searches of infinite quotients print those of infinite ones."""
+    return certificate.startswith("mqp ")
 
 
 def is_whole(certificate: str) -> bool:
@@ -59,16 +59,36 @@ def is_whole(certificate: str) -> bool:
 
 
 def shows_infinite(certificate: str) -> bool:
-    """Whether a text says that it shows an infinite quotient, of a part or of the whole game."""
-    return is_infinite(certificate) or is_whole(certificate)
+    """Whether a text is of a kind that shows an infinite quotient, of a part or of the whole game."""
+    return is_presentation(certificate) or is_whole(certificate)
 
 
 def heaps_of(certificate: str) -> int:
     """The last heap of which a certificate speaks, or 0 where it speaks of the whole game."""
     words = words_of(certificate)
-    if is_infinite(certificate):
-        return int(words["heaps"])
+    if is_presentation(certificate):
+        return int(words["heaps"].split()[0])
     return int(words["start"]) - 1 if words["period"] == "0" else 0
+
+
+def left_out(presentation: str) -> list[int]:
+    """The heaps that a presentation leaves out."""
+    return [at for at, word in enumerate(words_of(presentation)["words"].split(), 1) if word == "-"]
+
+
+def part_name(presentation: str) -> str:
+    """How the file of a presentation of some heaps is named, without its ending."""
+    words, without = words_of(presentation), [str(heap) for heap in left_out(presentation)]
+    return "_".join([words["code"], "heaps", words["heaps"], *["without"] * bool(without), *without])
+
+
+def letters_of(presentation: str) -> int:
+    """How many generators a presentation has."""
+    return len(words_of(presentation)["letters"].split())
+
+
+def relations_of(presentation: str) -> int:
+    return sum(line.startswith("relation ") for line in presentation.splitlines())
 
 
 def bound_of(certificate: str) -> int:

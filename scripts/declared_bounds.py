@@ -44,7 +44,7 @@ BOUNDS: list[tuple[dict[str, str], tuple[str, str, str, str]]] = [
     ({"requests/src/ranges": "DEFAULT_ORDER"}, ("ELEMENTS", "ELEMENTS", "ELEMENTS", "ELEMENTS")),
     ({"misere_theory/src/lib": "LARGEST_FIRST_ORDER"}, ("", "MOST_BY_FEW", "MOST_BY_FEW", "MOST_BY_FEW")),
     ({"misere_theory/src/lib": "LARGEST_SECOND_ORDER"}, ("", "PART_ELEMENTS", "", "")),
-    ({"misere_theory/src/lib": "LARGEST_ORDER"}, ("MOST_ELEMENTS", "MOST_ELEMENTS", "MOST_ELEMENTS", "MOST_ELEMENTS")),
+    ({"misere_theory/src/lib": "LARGEST_ORDER"}, ("MOST_ELEMENTS", "MOST_ELEMENTS", "", "MOST_ELEMENTS")),
     ({"misere_theory/src/lib": "LARGEST_PART"}, ("", "MOST_PART", "", "MOST_PART")),
     ({"positions/src/position": "LARGEST_HEAP"}, ("", "LARGEST_HEAP", "LARGEST_HEAP", "LARGEST_HEAP")),
 ]

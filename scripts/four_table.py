@@ -13,14 +13,15 @@ from dataclasses import dataclass, field
 from typing import Any
 
 from atlas_page import CATALOGUES, Entry, entries_of, groups_of, row
-from certificate_lines import heaps_of, is_infinite, place_of, words_of
+from certificate_lines import heaps_of, is_presentation, left_out, letters_of, place_of, relations_of, words_of
 from game_kinds import renamed
 from runs import Runs
 from script import load, root
 
 IN_ATLAS = ("0.d", "0.dd", "0.ddd", "4.d", "4.dd")
 SHAPES = (*IN_ATLAS, "0.dddd", "4.ddd")
-HEADS = "code codes outcome order portion start period heaps without tracks seconds accepted others whole".split()
+HEADS = "code codes outcome order portion start period heaps without letters relations".split()
+HEADS += "seconds accepted others whole".split()
 LAST_HEAPS = [(1, 9), (10, 19), (20, 29), (30, 49), (50, 99), (100, 1023), (1024, 1024)]
 OUT_OF_SECONDS = "out of seconds"
 
@@ -35,15 +36,10 @@ def is_short(code: str) -> bool:
     return shape_of(code) in IN_ATLAS
 
 
-def left_out(text: str) -> list[int]:
-    """The heaps that an infinite certificate leaves out."""
-    return [at for at, word in enumerate(words_of(text)["phi"].split(), 1) if word == "-"]
-
-
 def outcome_of(text: str | None) -> str:
     if text is None:
         return "neither"
-    return "infinite" if is_infinite(text) else "part" if heaps_of(text) else "full"
+    return "infinite" if is_presentation(text) else "part" if heaps_of(text) else "full"
 
 
 @functools.cache
@@ -58,10 +54,6 @@ def normal_codes() -> frozenset[str]:
     """The codes of whole games that are normal play beyond a heap, by scripts/four_tails."""
     lines = (root / "atlas/four_tails.tsv").read_text().splitlines()[1:]
     return frozenset(line.split("\t")[0] for line in lines)
-
-
-def tracks_of(text: str) -> int:
-    return sum(line.startswith("track ") for line in text.splitlines())
 
 
 def period_of(text: str) -> int:
@@ -109,22 +101,23 @@ class Kind:
         found["whole"] = str(sum(code in whole_codes() for code in self.codes) or "")
         if self.text:
             words = words_of(self.text)
-            found["order"] = words["order"]
+            found["portion"] = str(len(words["portion"].split()))
             if self.outcome == "full":
                 found |= {"start": words["start"], "period": words["period"]}
             else:
                 found["heaps"] = str(self.last)
             if self.outcome == "infinite":
-                found |= {"tracks": str(tracks_of(self.text)), "without": " ".join(map(str, left_out(self.text)))}
+                found |= {"letters": str(letters_of(self.text)), "relations": str(relations_of(self.text))}
+                found["without"] = " ".join(map(str, left_out(self.text)))
             else:
-                found["portion"] = str(len(words["portion"].split()))
+                found["order"] = words["order"]
         return [found[name] for name in HEADS]
 
 
 def kind_of(codes: list[str], texts: dict[str, str], seconds: float) -> Kind:
     """A kind with the certificates that were found; an infinite one is that of its other codes, too."""
     kind = Kind(codes, seconds, {code: texts[code] for code in codes if code in texts})
-    infinite = next((text for text in kind.candidates.values() if is_infinite(text)), None)
+    infinite = next((text for text in kind.candidates.values() if is_presentation(text)), None)
     for code in codes if infinite else []:
         if outcome_of(kind.candidates.get(code)) in ("neither", "part"):
             assert infinite
@@ -138,9 +131,9 @@ def check(program: str, jobs: int, kinds: list[Kind], folder: str) -> None:
     runs = Runs()
 
     def is_accepted(code: str, text: str) -> bool:
-        file = pathlib.Path(folder, f"{code}.{'mqi' if is_infinite(text) else 'mqc'}")
+        file = pathlib.Path(folder, f"{code}.{'mqp' if is_presentation(text) else 'mqc'}")
         file.write_text(text)
-        run = runs.run([program, "infinite" if is_infinite(text) else "check", str(file)])
+        run = runs.run([program, "infinite" if is_presentation(text) else "check", str(file)])
         if run.status:
             print(f"four_digits: {code} isn't accepted: {run.line}", file=sys.stderr, flush=True)
         return run.status == 0 and words_of(text)["code"] == code
@@ -212,7 +205,7 @@ class Summary:
         self.kinds, self.lines, self.left, self.monoids, self.machine = kinds, lines, left, monoids, machine
         self.texts = {code: text for kind in kinds for code, text in kind.accepted.items()}
         self.full = full_of(kinds)
-        self.infinite = {code: text for code, text in self.texts.items() if is_infinite(text)}
+        self.infinite = {code: text for code, text in self.texts.items() if is_presentation(text)}
 
     def families(self) -> Iterator[str]:
         """How many codes of each shape have a full quotient, or none, or neither is known."""
@@ -243,19 +236,19 @@ class Summary:
         yield from table_of(heads, rows)
 
     def shapes(self) -> Iterator[str]:
-        """The infinite quotients by tracks and elements."""
+        """The infinite quotients by generators and relations."""
         groups: dict[tuple[int, int], list[Kind]] = collections.defaultdict(list)
         for kind in self.kinds:
             if kind.outcome == "infinite":
                 assert kind.text
-                groups[tracks_of(kind.text), order_of(kind.text)].append(kind)
+                groups[letters_of(kind.text), relations_of(kind.text)].append(kind)
         rows = []
-        for (tracks, order), those in sorted(groups.items()):
+        for (letters, relations), those in sorted(groups.items()):
             codes = [code for kind in those for code in kind.accepted]
             heaps = " ".join(str(it) for it in sorted({kind.last for kind in those}))
             long = sum(not is_short(code) for code in codes)
-            rows.append([tracks, order, len(codes), long, named(codes), heaps])
-        heads = ["Tracks", "Elements", "Codes", "Not of the atlas", "The first", "Last heaps of first codes"]
+            rows.append([letters, relations, len(codes), long, named(codes), heaps])
+        heads = ["Generators", "Relations", "Codes", "Not of the atlas", "The first", "Last heaps of first codes"]
         yield from table_of(heads, rows)
 
     def parts(self) -> Iterator[str]:
@@ -303,10 +296,12 @@ class Summary:
         yield self.greatest("largest order", order_of)
         yield f"- {len(self.monoids.new)} bipartite monoids of full quotients are new, up to isomorphism."
         if infinite:
-            least, first = (min(infinite, key=key) for key in (lambda it: order_of(it.text or ""), lambda it: it.last))
-            fewest = order_of(least.text or "")
-            yield f"- The fewest elements of a certificate of an infinite one are {fewest}, of `{least.first}` to heap"
-            yield f"  {least.last}. The fewest heaps are those of `{first.first}`, to heap {first.last}."
+            least, first = (
+                min(infinite, key=key) for key in (lambda it: relations_of(it.text or ""), lambda it: it.last)
+            )
+            fewest = relations_of(least.text or "")
+            yield f"- The fewest relations of an infinite one are {fewest}, of `{least.first}` to heap {least.last}. The"
+            yield f"  fewest heaps are those of `{first.first}`, to heap {first.last}."
         yield ""
 
     def made(self) -> Iterator[str]:
@@ -350,9 +345,9 @@ def full_of(kinds: list[Kind]) -> dict[str, str]:
 
 
 def atlas_texts() -> dict[str, str]:
-    """The full and the infinite certificates of the atlas by code; of the infinite ones of a code the smallest."""
+    """The full certificates of the atlas and its infinite presentations by code; of those of a code the shortest."""
     found = {it.code: it.certificate for name in CATALOGUES for it in entries_of(root, name) if not it.heaps}
-    for file in sorted((root / "atlas/infinite").glob("*.mqi"), key=lambda it: -it.stat().st_size):
+    for file in sorted((root / "atlas/infinite").glob("*.mqp"), key=lambda it: -it.stat().st_size):
         found[file.name.split("_")[0]] = file.read_text()
     return found
 

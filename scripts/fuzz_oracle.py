@@ -27,16 +27,15 @@ from script import root
 CHECKER = root / "coq/out/checker"
 SECONDS = 60
 BATCH = 25  # so many texts to a run of the program of coq/
-LARGEST = 100  # the order above which a text isn't changed: with tracks each one takes seconds
-NUMBERED = re.compile(rb"(?m)^(phi|portion|words|row|apart|track|base|up|down|start|period|rise|odd|weights|leads) .*$")
+LARGEST = 100  # the order above which a text isn't changed
+NUMBERED = re.compile(rb"(?m)^(phi|portion|words|row|apart|start|period|rise|odd|weights|leads) .*$")
 # Presentations are made of certificates with so many entries of the line phi at most, and one in so many
 FEW_HEAPS, STEP = 40, 4
 LETTERS = 26
-# Of a text with tracks a position at which the rule fails is looked for, by each program in its own way
+MOST_BYTES = 2500  # the length above which a presentation isn't changed: each one takes seconds
 UNDECIDED = "no 33 Undecided"
-FOUND = {"no 7 Outcome", "no 32 Idle", UNDECIDED}
-KINDS = ("without tracks", "with tracks", "of whole games", "of presentations")
-COMMANDS = ("check", "infinite", "infinite", "verify")
+KINDS = ("of finite quotients", "of whole games", "of presentations")
+COMMANDS = ("check", "infinite", "verify")
 
 
 def are_small(texts: Iterable[bytes]) -> list[bytes]:
@@ -55,12 +54,6 @@ def small_finite() -> list[bytes]:
     return texts + [text.encode() for text in third_texts.small()] * (len(texts) // 16)
 
 
-def small_infinite() -> list[bytes]:
-    """The certificates of infinite quotients of small orders."""
-    files = [*sorted(root.glob("certificates/*.mqi")), *sorted(root.glob("atlas/infinite/*.mqi"))]
-    return are_small(file.read_bytes() for file in files)
-
-
 def whole_games() -> list[bytes]:
     """The texts of whole games."""
     files = [*sorted(root.glob("certificates/*.mqw")), *sorted(root.glob("atlas/whole/*.mqw"))]
@@ -72,7 +65,8 @@ def presentations(program: str) -> list[bytes]:
     few = [it.decode() for it in of_the_atlas() if it.split(b"\nphi ")[1].split(b"\n")[0].count(b" ") < FEW_HEAPS]
     given = [presented.presentation_of(presented.described(program, it)) for it in few[::STEP]]
     made = [it.text().encode() for it in given if len(it.letters) <= LETTERS]
-    return made + [file.read_bytes() for file in sorted(root.glob("certificates/**/*.mqp"))]
+    samples = [file.read_bytes() for file in sorted(root.glob("certificates/**/*.mqp"))]
+    return made + [it for it in samples if len(it) <= MOST_BYTES]
 
 
 def nudged(text: bytes, chance: random.Random) -> bytes:
@@ -118,7 +112,7 @@ def otherwise_presented(text: bytes, chance: random.Random) -> bytes:
 
 def changed_text(samples: list[bytes], kind: str, chance: random.Random) -> bytes:
     """A changed sample: of presentations most are so that they say something."""
-    if kind == KINDS[3] and chance.randrange(4):
+    if kind == KINDS[2] and chance.randrange(4):
         return otherwise_presented(chance.choice(samples), chance)
     return damaged(samples, chance)
 
@@ -183,22 +177,21 @@ def answer_of(line: str) -> str:
 
 
 def oracle(program: str) -> Oracle:
-    samples = (small_finite(), small_infinite(), whole_games(), presentations(program))
+    samples = (small_finite(), whole_games(), presentations(program))
     return Oracle(program, dict(zip(KINDS, samples)))
 
 
 def is_decided_once(said: str, other: str, kind: str) -> bool:
     """Whether one of the two doesn't decide what the other says of a presentation, which is no contradiction."""
     lines = (said, other)
-    return kind == KINDS[3] and UNDECIDED in lines and "no 1 Text" not in lines
+    return kind == KINDS[2] and UNDECIDED in lines and "no 1 Text" not in lines
 
 
 def look_at(oracle: Oracle, seed: int, count: int, kind: str, jobs: int | None) -> int:
     """Looks at so many changed texts and tells what was said of them. How many differ.
 
     A check that is given up at its limit isn't compared, nor one that has no end in a minute: these are counted. So
-    are those of which the two find different faults of FOUND, each of which may be there, and presentations of which
-    one decides nothing.
+    are presentations of which one decides nothing.
     """
     answers: Counter[str] = Counter()
     wrong = 0
@@ -211,7 +204,7 @@ def look_at(oracle: Oracle, seed: int, count: int, kind: str, jobs: int | None) 
                 answers["not compared"] += 1
             elif said == other:
                 answers[answer_of(said)] += 1
-            elif {said, other} <= FOUND or is_decided_once(said, other, kind):
+            elif is_decided_once(said, other, kind):
                 number = other.split()[1] if other.startswith("no ") else answer_of(other)
                 answers[f"{answer_of(said)} ({number} by coq/)"] += 1
             else:

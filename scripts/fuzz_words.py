@@ -108,14 +108,14 @@ def tries(commands: Commands, chance: random.Random, text: bytes) -> Iterator[tu
     yield [b"compare", b"x.mqc", word([b"x.mqc", b"-", b"nowhere"], chance)], text
     yield [b"certify", word([b"x.mqc", b"-", b"nowhere"], chance)], text
     yield [b"explain", word([b"x.mqc", b"-", b"nowhere"], chance)], text
-    yield [b"infinite", b"x.mqi"], b""
-    yield [b"infinite", b"x.mqi", word(POSITIONS, chance)], b""
-    yield [b"infinite", b"x.mqi", b"-"], lines_of(POSITIONS, chance)
-    yield [b"infinite", b"x.mqi", b"--show", *chance.sample([b"--latex", b"--json"], chance.randrange(3))], b""
-    yield [b"verify", word([b"x.mqc", b"x.mqi", b"x.mqw", b"-"], chance)], text
+    yield [b"infinite", b"x.mqp"], b""
+    yield [b"infinite", b"x.mqp", word(POSITIONS, chance)], b""
+    yield [b"infinite", b"x.mqp", b"-"], lines_of(POSITIONS, chance)
+    yield [b"infinite", b"x.mqp", b"--show", *chance.sample([b"--latex", b"--json"], chance.randrange(3))], b""
+    yield [b"verify", word([b"x.mqc", b"x.mqw", b"-"], chance)], text
     yield [b"verify", b"x.mqp", b"--limit", word(LIMITS, chance)], b""
     yield [b"tail", b"x.mqc"], b""
-    given = [b"x.mqc", b"x.mqw"]
+    given = [b"x.mqc", b"x.mqw", b"x.mqp"]
     yield [b"value", word(given, chance), word(POSITIONS, chance)], b""
     yield [b"apart", word(given, chance), word(POSITIONS, chance), word(POSITIONS, chance)], b""
     yield [b"play", word(given, chance), word(POSITIONS, chance), *chance.sample([b"--all"], chance.randrange(2))], b""

@@ -1,4 +1,4 @@
-"""Kinds of octal codes, whose heaps play alike, and a certificate under the name of another code of its kind."""
+"""Kinds of octal codes, whose heaps play alike, and a presentation under the name of another code of its kind."""
 
 from __future__ import annotations
 
@@ -48,15 +48,15 @@ def kinds_of(codes: Iterable[str]) -> list[list[str]]:
 
 
 class Renaming:
-    """The heaps of an infinite certificate, and those of another code that are the same games."""
+    """The heaps of a presentation, and those of another code that are the same games."""
 
     def __init__(self, text: str, code: str) -> None:
-        self.phi = words_of(text)["phi"].split()
-        games, last = Games(), len(self.phi) + len(code)
+        self.words = words_of(text)["words"].split()
+        games, last = Games(), len(self.words) + len(code)
         self.own, self.others = (games.heaps(it, last) for it in (words_of(text)["code"], code))
-        self.said: dict[int, int] = {}  # of each game that has an element, its first heap
-        for heap, element in enumerate(self.phi, 1):
-            if element != "-" and self.own[heap]:
+        self.said: dict[int, int] = {}  # of each game that has a word, its first heap
+        for heap, word in enumerate(self.words, 1):
+            if word != "-" and self.own[heap]:
                 self.said.setdefault(self.own[heap], heap)
         self.firsts = {game: self.others.index(game) for game in self.said if game in self.others}
         self.code, self.last = code, max(self.firsts.values(), default=0)
@@ -69,33 +69,27 @@ class Renaming:
         """The other code's heap; KeyError for one without a move."""
         return self.firsts[self.own[int(heap)]]
 
-    def element(self, game: int) -> str:
-        """The word of a heap's element: a heap without a move has 0, and one of another game is left out."""
-        return self.phi[self.said[game] - 1] if game in self.said else "-" if game else "0"
+    def word(self, game: int) -> str:
+        """The word of a heap: of one without a move it is 1, and one of another game is left out."""
+        return self.words[self.said[game] - 1] if game in self.said else "-" if game else "1"
 
     def line(self, line: str) -> str:
-        """A line of the certificate under the other name."""
+        """A line of the presentation under the other name."""
         name, *words = line.split(" ")
         if name == "code":
             words = [self.code]
         elif name == "heaps":
             words = [str(self.last)]
-        elif name == "phi":
-            words = [self.element(game) for game in self.others[1 : self.last + 1]]
-        elif name == "track":
-            weights = {int(word.split(":")[0]): word.partition(":")[2] for word in words[6:]}
-            named = [(heap, self.said.get(self.others[heap])) for heap in range(1, self.last + 1)]
-            words = words[:6] + [f"{heap}:{weights[it]}" for heap, it in named if it in weights]
+        elif name == "letters":
+            words = [str(self.heap(heap)) for heap in words]
         elif name == "words":
-            words = [f"{element}:{self.heap(heap)}" for element, heap in (word.split(":") for word in words)]
-        elif name in ("base", "up", "down"):
-            words = [str(it) for it in sorted(map(self.heap, words))]
+            words = [self.word(game) for game in self.others[1 : self.last + 1]]
         return " ".join([name, *words])
 
 
 def renamed(text: str, code: str) -> str | None:
-    """An infinite certificate under the name of another code of its kind, or None if that hasn't all its heaps. Nothing
-    says that it is right; a check does."""
+    """A presentation under the name of another code of its kind, or None if that hasn't all its heaps. Nothing says that
+    it is right; a check does."""
     it = Renaming(text, code)
     try:
         return "".join(f"{it.line(line)}\n" for line in text.splitlines()) if it.has_all else None

@@ -9,7 +9,7 @@ from collections.abc import Iterator, Mapping
 LINK = re.compile(r"(!?)\[([^\]]*)\]\(([^()\s]+)\)")
 # What commands on the pages name of the repository
 SURVEYS = "survey_table|survey|merge|codes"
-NAMED = re.compile(rf"(?<![\w/.-])((?:certificates|atlas)/[\w/.]+\.(?:mqc|mqi|mqw|json)|scripts/(?:{SURVEYS}))\b")
+NAMED = re.compile(rf"(?<![\w/.-])((?:certificates|atlas)/[\w/.]+\.(?:mqc|mqp|mqw|json)|scripts/(?:{SURVEYS}))\b")
 HEADING = re.compile(r"^#+ (.+)$", re.M)
 
 

@@ -71,7 +71,7 @@ def of_command(name: str, command: Command) -> Iterator[str]:
 FILES = {
     "/usr/share/misere/certificates": "Certificates of some games, and in the folder refused such as are refused.",
     "/usr/share/misere/atlas": "The catalogues octal.json and hexadecimal.json of small games, and parts.json.",
-    "/usr/share/misere/atlas/infinite": "Certificates of infinite quotients and their presentations, a file each.",
+    "/usr/share/misere/atlas/infinite": "Presentations of infinite quotients, a file each.",
     "/usr/share/misere/scripts": "Scripts that search many codes, survey, merge, codes and survey_table, for Python 3.",
     "/usr/share/doc/misere": "The pages: README.md, docs/TUTORIAL.md to begin with, and the licences.",
 }

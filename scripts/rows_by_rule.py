@@ -215,30 +215,6 @@ idempotents 1 b^2
 kernel b c d """
 
 
-def are_no_units(text: str) -> bool:
-    """Whether no heap of a certificate with tracks that counts has an element of which 0 is a multiple."""
-    words, lines = words_of(text), text.splitlines()
-    said = (line.split(" ", 2) for line in lines if line.startswith("row "))
-    rows = {element: row for _, element, row in said}
-    heaps = (word.split(":")[0] for line in lines if line.startswith("track ") for word in line.split()[7:])
-    elements = [words["phi"].split()[int(heap) - 1] for heap in heaps]
-    return all(it != "0" and "0" not in rows[it].split() for it in elements)
-
-
-def large_infinite_quotients(program: str, _: pathlib.Path, runs: Runs) -> Iterator[str]:
-    """A limit below the number of elements, each of which is a position's; and an idle place among 24 elements: 0 is a
-    product of units alone, so no position with it has a heap that counts, and its only place is (0,0)."""
-    kayles = sample("0.07_heaps_34_without_33.mqi").decode()
-    if words_of(kayles)["order"] != "664":
-        yield "not 664 elements"
-    yield from differs(runs.run([program, "infinite", "-", "--limit", "663"], kayles.encode()), 1, b"no 8 Limit\n")
-    text = (root / "atlas/infinite/0.544_heaps_15.mqi").read_text()
-    if not are_no_units(text) or "\nregion 0 " in text:
-        yield "a position with the element 0 may have another place than (0,0)"
-    idle = text.replace("\nregion ", "\nregion 0 40\nregion ", 1)
-    yield from differs(runs.run([program, "infinite", "-"], idle.encode()), 1, b"no 32 Idle\n")
-
-
 def catalogue_of(texts: Iterable[tuple[str, str, int]], version: int) -> bytes:
     """A catalogue of certificates, with their codes and last heaps, as it is written."""
     entries: list[dict[str, str | int]] = []
@@ -385,8 +361,8 @@ def run_on(program: str, words: str, folder: pathlib.Path, device: str) -> subpr
             os.close(put)
 
 
-# The lines that a text may leave out, and those that go on for as long as numbers come
-OPTIONAL, OPEN = ("track", "region"), ("portion", "base", "up", "down", "track")
+# The lines that a text may leave out, and those that go on for as long as numbers or words come
+OPTIONAL, OPEN = ("relation",), ("letters", "portion")
 
 
 def table_of(text: str) -> str:
@@ -397,7 +373,7 @@ def table_of(text: str) -> str:
 
 def texts_of_kinds() -> list[list[str]]:
     """The lines of one text of each kind."""
-    names = ("0.33.mqc", "0.354_heaps_5.mqi", "0.734.mqw")
+    names = ("0.33.mqc", "0.354_heaps_5.mqp", "0.734.mqw")
     texts = [sample(it).decode() for it in names]
     return [it.splitlines() for it in (*texts, table_of(texts[0]))]
 
@@ -407,7 +383,7 @@ def wanted_at(lines: list[str], at: int) -> str:
     words = [it.split()[0] for it in lines]
     while words[at] in OPTIONAL and words[at + 1] == words[at]:
         at += 1
-    return f'"{words[at + 1 if words[at] in OPTIONAL else at]}"' if at else "mqc, mqi, mqw, mqp or table"
+    return f'"{words[at + 1 if words[at] in OPTIONAL else at]}"' if at else "mqc, mqw, mqp or table"
 
 
 def damaged(lines: list[str], at: int) -> Iterator[tuple[list[str], str]]:
@@ -416,8 +392,8 @@ def damaged(lines: list[str], at: int) -> Iterator[tuple[list[str], str]]:
     word, rest = lines[at].split()[0], lines[at].partition(" ")[2]
     yield [*lines[:at], f"x {rest}", *lines[at + 1 :]], f'line {at + 1}: "x" in place of {wanted_at(lines, at)}\n'
     yield lines[:at], f"line {at + 1}: the end of the text in place of {wanted_at(lines, at)}\n" if at else "no byte\n"
-    more = '"x" in place of a number up to ' if word in OPEN else "a space in place of the end of the line\n"
-    yield [*lines[:at], f"{lines[at]} x", *lines[at + 1 :]], f"line {at + 1}: {more}"
+    more = '"X" in place of a ' if word in OPEN else "a space in place of the end of the line\n"
+    yield [*lines[:at], f"{lines[at]} X", *lines[at + 1 :]], f"line {at + 1}: {more}"
 
 
 def damages() -> list[tuple[list[str], str]]:
@@ -449,7 +425,6 @@ def made_rows() -> Iterator[Made]:
     """All of them, those that take longest first."""
     yield Made("large refusals", 10, large_refusals)
     yield Made("large quotients", 4, large_quotients)
-    yield Made("large infinite quotients", 2, large_infinite_quotients)
     yield Made("edges of the formats", sum(1 for _ in edges()), of_edges)
     yield Made("changed texts", sum(1 for _ in changed_texts()), of_changes)
     yield Made("codes by rule", 255, codes_by_rule)

@@ -6,9 +6,9 @@
  *     misere.outcome(certificate, [2, 10n ** 12n]);  // 0: lost for the player to move; 1: won
  *
  * Each call checks the certificate anew, and keeps nothing: what misere_open opens would be lost with an instance that
- * failed, so that call and its kin stand in the module and not here. Of infinite quotients, whose checks take longer,
- * the last one that was asked stays open; with an instance that failed it is lost, and opened anew. What is thrown as
- * `Refused` is an answer of the library; whatever else is thrown is no verdict.
+ * failed, so that call and its kin stand in the module and not here. Of whole games and presentations, whose checks
+ * take longer, the last one that was asked stays open; with an instance that failed it is lost, and opened anew. What
+ * is thrown as `Refused` is an answer of the library; whatever else is thrown is no verdict.
  */
 
 import {Failed, Instance} from "./instance.js";
@@ -59,9 +59,8 @@ export const STATUSES = {
   17: "NotOpen",
   23: "Beyond",
   31: "Part",
-  32: "Idle",
   33: "Undecided",
-  34: "Ray",
+  34: "Finite",
 };
 const [OUTCOME, MEMORY, NOT_A_HEAP, GAVE_UP, NO_ROOM, NOT_IN_RANGE] = [7, 9, 10, 13, 14, 15];
 
@@ -83,11 +82,11 @@ const CALLS = {
   misere_solve_why: ["&[u8]", "u32", "u32", "u32", "u32", "u32", "&mut [u8]", "&mut u64"],
   misere_describe: ["&[u8]", "u32", "u32", "u32", "&mut [u8]", "&mut u64"],
 };
-/** Those for infinite quotients and for presentations, in a module that has them. */
+/** Those for whole games and for presentations, in a module that has them. */
 const INFINITE_CALLS = {
-  misere_check_infinite: ["&[u8]", "u32"],
-  misere_infinite_failure: ["&[u8]", "u32", "&mut [u64]", "&mut u64"],
-  misere_infinite_open: ["&[u8]", "u32", "&mut OpenedInfinite"],
+  misere_check_infinite: ["&[u8]"],
+  misere_infinite_failure: ["&[u8]", "&mut [u64]", "&mut u64"],
+  misere_infinite_open: ["&[u8]", "&mut OpenedInfinite"],
   misere_infinite_close: ["&mut OpenedInfinite"],
   misere_infinite_kind: ["&mut OpenedInfinite", "&mut u64"],
   misere_infinite_code: ["&mut OpenedInfinite", "&mut [u8]", "&mut u64"],
@@ -95,7 +94,7 @@ const INFINITE_CALLS = {
   misere_infinite_answers: ["&mut OpenedInfinite", "&[u64]", "&[u64]", "&mut [MisereAnswer]"],
   misere_infinite_describe: ["&mut OpenedInfinite", "u32", "&mut [u8]", "&mut u64"],
   misere_infinite_value: ["&mut OpenedInfinite", "&[u64]", "&mut [u8]", "&mut u64"],
-  misere_solve_infinite: ["&[u8]", "u32", "u32", "u32", "&mut [u8]", "&mut u64"],
+  misere_solve_infinite: ["&[u8]", "u32", "&mut [u8]", "&mut u64"],
 };
 /** The fields of a MisereAnswer, each a number of 64 bits. */
 const FIELDS = ["kind", "heap", "first", "second", "third"];
@@ -108,8 +107,8 @@ const AIMS = ["whole", "part", "furthest"];
  * @typedef {{kind: "ended"} | {kind: "lost"} | {kind: "wins", heap: bigint, left: bigint[]}} Answer whether the game is
  *     over, or every move loses, or which the first winning move is: the heap that it takes, and what it leaves of it
  * @typedef {import("./instance.js").Numbers} Numbers
- * @typedef {{bytes: Uint8Array, limit: number, failures: number, owner: BigUint64Array}} Opened an
- *     infinite quotient, and how often the instance had failed
+ * @typedef {{bytes: Uint8Array, failures: number, owner: BigUint64Array}} Opened a whole game or a presentation, and
+ *     how often the instance had failed
  * @typedef {"description" | "latex" | "relations" | "json" | "singular" | "gap"} Output
  * @typedef {object} Search how far a search goes
  * @property {"whole" | "part" | "furthest"} [aim] of all heaps; of the heaps 1 to `heaps`; or of the most first ones
@@ -211,7 +210,7 @@ export class Misere {
    * @param {Uint8Array} bytes
    */
   check(bytes, limit = LIMIT) {
-    this.#check("misere_failure", bytes, limit);
+    this.#check("misere_failure", [bytes, bounded(limit)]);
   }
 
   /**
@@ -291,56 +290,54 @@ export class Misere {
     return this.#text("misere_solve_why", [new TextEncoder().encode(code), ...bounds], MOST);
   }
 
-  /** Whether the module has the calls for infinite quotients and presentations, which the next seven need. */
+  /** Whether the module has the calls for whole games and presentations, which the next seven need. */
   knowsInfinite() {
     return Object.keys(INFINITE_CALLS).every((it) => it in this.#instance.exports);
   }
 
   /**
    * Looks for an infinite quotient of the game of a code, and tells its text, which is accepted: of the whole game, or
-   * else of the heaps 1 to some heap up to `heaps`. Where the search is given up, `why` of the refusal says how.
+   * else a presentation of some of the heaps 1 to `heaps`. Where the search is given up, `why` of the refusal says how.
    * @param {string} code
-   * @param {{heaps?: number, order?: number, limit?: number}} search
+   * @param {{heaps?: number}} search
    */
-  solveInfinite(code, {heaps = INFINITE_HEAPS, order = MOST_ELEMENTS, limit = LIMIT} = {}) {
-    const bounds = [limit, heaps, order].map(bounded);
-    return this.#text("misere_solve_infinite", [new TextEncoder().encode(code), ...bounds], MOST);
+  solveInfinite(code, {heaps = INFINITE_HEAPS} = {}) {
+    return this.#text("misere_solve_infinite", [new TextEncoder().encode(code), bounded(heaps)], MOST);
   }
 
   /**
-   * Whether the bytes are an accepted certificate of an infinite quotient, or an accepted presentation: throws the
-   * refusal where they aren't.
+   * Whether the bytes are an accepted text of a whole game, or an accepted presentation: throws the refusal where they
+   * aren't.
    * @param {Uint8Array} bytes
    */
-  checkInfinite(bytes, limit = LIMIT) {
+  checkInfinite(bytes) {
     try {
-      this.#open(bytes, limit);
+      this.#open(bytes);
     } catch (refused) {
       // (a second check tells the position at which the rule fails)
-      if (refused instanceof Refused && refused.status === OUTCOME)
-        this.#check("misere_infinite_failure", bytes, limit);
+      if (refused instanceof Refused && refused.status === OUTCOME) this.#check("misere_infinite_failure", [bytes]);
       throw refused;
     }
   }
 
   /**
-   * The outcome of each of many positions, by a certificate of an infinite quotient.
+   * The outcome of each of many positions, by such a text.
    * @param {Uint8Array} bytes
    * @param {Position[]} positions
    */
-  infiniteOutcomes(bytes, positions, limit = LIMIT) {
+  infiniteOutcomes(bytes, positions) {
     const told = new Uint32Array(positions.length);
-    return this.#many("misere_infinite_outcomes", [this.#open(bytes, limit)], positions, told);
+    return this.#many("misere_infinite_outcomes", [this.#open(bytes)], positions, told);
   }
 
   /**
-   * The first winning move in each of many positions, by a certificate of an infinite quotient.
+   * The first winning move in each of many positions, by such a text.
    * @param {Uint8Array} bytes
    * @param {Position[]} positions
    */
-  infiniteAnswers(bytes, positions, limit = LIMIT) {
+  infiniteAnswers(bytes, positions) {
     const told = new BigUint64Array(FIELDS.length * positions.length);
-    return answersOf(this.#many("misere_infinite_answers", [this.#open(bytes, limit)], positions, told));
+    return answersOf(this.#many("misere_infinite_answers", [this.#open(bytes)], positions, told));
   }
 
   /**
@@ -348,20 +345,20 @@ export class Misere {
    * @param {Uint8Array} bytes
    * @param {Position} position
    */
-  infiniteValue(bytes, position, limit = LIMIT) {
-    return this.#text("misere_infinite_value", [this.#open(bytes, limit), heapsOf(position)]);
+  infiniteValue(bytes, position) {
+    return this.#text("misere_infinite_value", [this.#open(bytes), heapsOf(position)]);
   }
 
   /**
-   * What a certificate of an infinite quotient or a presentation says, as plain text, for LaTeX or in JSON.
+   * What a presentation says, as plain text, for LaTeX or in JSON.
    * @param {Uint8Array} bytes
-   * @param {{output?: "description" | "latex" | "json", limit?: number}} how
+   * @param {{output?: "description" | "latex" | "json"}} how
    */
-  describeInfinite(bytes, {output = "description", limit = LIMIT} = {}) {
-    return this.#text("misere_infinite_describe", [this.#open(bytes, limit), OUTPUTS.indexOf(output)]);
+  describeInfinite(bytes, {output = "description"} = {}) {
+    return this.#text("misere_infinite_describe", [this.#open(bytes), OUTPUTS.indexOf(output)]);
   }
 
-  /** Gives back the memory of an infinite quotient that is open, if there is one. */
+  /** Gives back the memory of a whole game or a presentation that is open, if there is one. */
   close() {
     const last = this.#kept();
     this.#opened = null;
@@ -385,36 +382,34 @@ export class Misere {
   /**
    * A check, and a second one where the position at which the rule fails is longer than the room for it.
    * @param {"misere_failure" | "misere_infinite_failure"} name
-   * @param {Uint8Array} bytes
-   * @param {number} limit
+   * @param {(number | Numbers)[]} asked a text, and for a finite quotient the limit
    * @param {number} room
    * @returns {void}
    */
-  #check(name, bytes, limit, room = USUAL_HEAPS) {
+  #check(name, asked, room = USUAL_HEAPS) {
     const [told, count] = [new BigUint64Array(room), new BigUint64Array(1)];
-    const status = this.#call(name, bytes, bounded(limit), told, count);
+    const status = this.#call(name, ...asked, told, count);
     const length = Number(count[0]);
-    if (status === OUTCOME && length > room) return this.#check(name, bytes, limit, length);
+    if (status === OUTCOME && length > room) return this.#check(name, asked, length);
     if (status) throw new Refused(status, status === OUTCOME ? [...told.subarray(0, length)] : null);
   }
 
   /**
-   * The owner of the infinite quotient that the bytes certify.
+   * The owner of the whole game or the presentation that the bytes spell.
    * @param {Uint8Array} bytes
-   * @param {number} limit
    */
-  #open(bytes, limit) {
+  #open(bytes) {
     const last = this.#kept();
-    if (last && last.limit === limit && isSame(last.bytes, bytes)) return last.owner;
+    if (last && isSame(last.bytes, bytes)) return last.owner;
     this.close();
     const owner = new BigUint64Array(2);
-    const status = this.#call("misere_infinite_open", bytes, bounded(limit), owner);
+    const status = this.#call("misere_infinite_open", bytes, owner);
     if (status) throw new Refused(status);
-    this.#opened = {bytes: bytes.slice(), limit, failures: this.#instance.failures, owner};
+    this.#opened = {bytes: bytes.slice(), failures: this.#instance.failures, owner};
     return owner;
   }
 
-  /** The infinite quotient that is open. */
+  /** What is open. */
   #kept() {
     return this.#opened?.failures === this.#instance.failures ? this.#opened : null;
   }

@@ -9,11 +9,7 @@ let help =
   \    yes CODE order ORDER start START period PERIOD\n\
   \    yes CODE order ORDER heaps LAST\n\
   \    no NUMBER NAME           the fault, 1 Text to 7 Outcome; nothing more is said of 7\n\
-   and of one of an infinite quotient, which begins with `mqi`, that of `misere infinite`:\n\
-  \    infinite CODE heaps LAST [without HEAPS]\n\
-  \    no NUMBER NAME           the fault: 1 Text, 2 Law, 4 Order, 7 Outcome, 31 Part, 32 Idle, 34 Ray; or\n\
-  \    no 33 Undecided          it isn't seen to be right, nor to be wrong\n\
-   and of one of a whole game, which begins with `mqw`, that of `misere infinite` too:\n\
+   and of one of a whole game, which begins with `mqw`, that of `misere infinite`:\n\
   \    infinite CODE whole\n\
   \    no 1 Text                it is no such text\n\
   \    no 33 Undecided          it isn't seen to be right; misere may say 7, and where it is wrong\n\

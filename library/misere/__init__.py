@@ -12,7 +12,7 @@
     q.apart([2], [1, 2, 2])                # Apart((1,), ('N', 'P')): what tells two positions apart; or None
     misere.Catalogue()["Kayles"]           # that of the atlas, by its code or its name
     misere.certify("0.1", [[0, 1], [1, 0]], heaps=[1, 0], portion=[1], period=1)  # one's own, in any numbering
-    misere.check_infinite(pathlib.Path("0.354_heaps_5.mqi")).outcome([2, 4] + 7 * [5])  # 'P': no finite one says so
+    misere.check_infinite(pathlib.Path("0.354_heaps_5.mqp")).outcome([2, 4] + 7 * [5])  # 'P': no finite one says so
     misere.solve_infinite("0.26").outcome([2, 10**15])  # 'P', by a text of the whole game
     misere.check_infinite(pathlib.Path("0.404_heaps_12.mqp")).value([7])  # 'ab', by generators and relations
 

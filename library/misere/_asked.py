@@ -19,7 +19,7 @@ Given = Union[bytes, str, "os.PathLike[str]"]
 # As many bytes are room for most descriptions
 USUAL_TEXT = 1 << 16
 # Which call checks a text that begins so, and what else is to be done with one
-CHECKS: Final = {b"mqc ": "check", **dict.fromkeys((b"mqi ", b"mqw ", b"mqp "), "check_infinite")}
+CHECKS: Final = {b"mqc ": "check", b"mqw ": "check_infinite", b"mqp ": "check_infinite"}
 OTHERS: Final = {b"tabl": "misere.certify takes a table of one's own"}
 Self = TypeVar("Self", bound="Asked")
 
@@ -31,17 +31,18 @@ class Asked:
     by `close()`, or behind a block of `with`. A copy is closed by itself. What is pickled is checked again where it is
     read."""
 
-    __slots__ = ("_bytes", "_certified", "_limit", "_said", "__weakref__")
+    __slots__ = ("_bounds", "_bytes", "_certified", "_said", "__weakref__")
 
     # How it is opened and asked, the call that makes it, and what its text says
     _calls: type[Certified]
     _check: str
     _said: Any
 
-    def __init__(self, certificate: Given, limit: int) -> None:
-        self._bytes, self._limit = _bytes_of(certificate), number_of(limit)
+    def __init__(self, certificate: Given, *bounds: int) -> None:
+        """Of a certificate, and the bounds that its check takes."""
+        self._bytes, self._bounds = _bytes_of(certificate), tuple(map(number_of, bounds))
         try:
-            self._certified = self._calls.of(self._bytes, self._limit)
+            self._certified = self._calls.of(self._bytes, *self._bounds)
         except Refused as stop:
             raise self._advised(stop, certificate) from None
 
@@ -172,15 +173,15 @@ class Asked:
     def __hash__(self) -> int:
         return hash(self._bytes)
 
-    def __reduce__(self: Self) -> tuple[Callable[[bytes, int], Self], tuple[bytes, int]]:
+    def __reduce__(self: Self) -> tuple[Callable[..., Self], tuple[bytes | int, ...]]:
         self._stay_open()
-        return type(self), (self._bytes, self._limit)
+        return type(self), (self._bytes, *self._bounds)
 
     def __copy__(self: Self) -> Self:
         """Another object of the same certificate. Nothing is checked."""
         self._stay_open()
         other = object.__new__(type(self))
-        other._bytes, other._limit, other._said = self._bytes, self._limit, self._said
+        other._bytes, other._bounds, other._said = self._bytes, self._bounds, self._said
         other._certified = self._certified.copy()
         return other
 
@@ -197,7 +198,7 @@ def number_of_output(output: str, outputs: Sequence[str | None]) -> int:
 
 
 def is_infinite(certificate: Given) -> bool:
-    """Whether it begins as the text of an infinite quotient does, or as a presentation."""
+    """Whether it begins as the text of a whole game does, or as a presentation."""
     return CHECKS.get(_bytes_of(certificate)[:4]) == "check_infinite"
 
 

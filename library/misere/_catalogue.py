@@ -27,9 +27,9 @@ Kept = TypeVar("Kept", bound=Asked)
 class _Kept(Mapping[Key, Kept]):
     """Certificates by their codes and last heaps, each of which is checked when it is asked for."""
 
-    def __init__(self, texts: Texts, kinds: Kinds, limit: int) -> None:
+    def __init__(self, texts: Texts, kinds: Kinds) -> None:
         """Of texts, and of the last heap of that which a code alone means."""
-        self._texts, self._kinds, self._limit = texts, kinds, limit
+        self._texts, self._kinds = texts, kinds
         self._furthest = _furthest_of(texts)
 
     def certificate(self, key: Key) -> str:
@@ -77,38 +77,39 @@ class Catalogue(_Kept[Quotient]):
         texts: Texts = {}
         for file in [pathlib.Path(path)] if path is not None else [_atlas() / name for name in ATLAS]:
             texts.update(_entries_of(file))
-        super().__init__(texts, _furthest_of(texts), limit)
+        super().__init__(texts, _furthest_of(texts))
+        self._limit = limit
 
     def __getitem__(self, key: Key) -> Quotient:
         return Quotient(self.certificate(key), self._limit)
 
 
 class InfiniteCatalogue(_Kept[InfiniteQuotient]):
-    """The infinite quotients of a folder of certificates, NAME.mqi each, and NAME.mqw of whole games; or without a path
-    those of the atlas. (Those of whole games of four digits are in the repository alone.)
+    """The quotients of a folder of presentations, NAME.mqp each, and of texts of whole games, NAME.mqw; or without a path
+    the infinite ones of the atlas. (Those of whole games of four digits are in the repository alone.)
 
     catalogue["0.26"] is that of the whole game, and catalogue["0.07"] or catalogue["Dawson's Kayles"], where there is none,
     that of the fewest heaps. catalogue.furthest("0.07") is that of the most, and catalogue["0.07", 34] that of the heaps
     to 34: of several the one that leaves out the fewest. Each is checked when it is asked for: those of the most heaps take
-    seconds, all of them the check's."""
+    minutes, all of them the check's."""
 
-    def __init__(self, path: str | os.PathLike[str] | None = None, limit: int = LIMIT) -> None:
-        folders = _infinite_folders() if path is None else [pathlib.Path(path)]
-        texts = _infinite_of(sorted(file for folder in folders for file in folder.glob("*.mq[iw]")))
+    def __init__(self, path: str | os.PathLike[str] | None = None) -> None:
+        texts = _infinite_of(_infinite_files() if path is None else sorted(pathlib.Path(path).glob("*.mq[pw]")))
         kinds: Kinds = {}
         for code, heaps in sorted(texts):
             kinds.setdefault(code, heaps)
-        super().__init__(texts, kinds, limit)
+        super().__init__(texts, kinds)
 
     def __getitem__(self, key: Key) -> InfiniteQuotient:
-        return InfiniteQuotient(self.certificate(key), self._limit)
+        return InfiniteQuotient(self.certificate(key))
 
 
-def _infinite_folders() -> list[pathlib.Path]:
+def _infinite_files() -> list[pathlib.Path]:
     """Where the atlas has infinite quotients, of parts and of whole games. Those of some whole games are samples, which
     stand beside the atlas, or in it where it is installed."""
     atlas = _atlas()
-    return [atlas / "infinite", atlas / "whole", atlas / "whole/further", atlas.parent / "certificates"]
+    games = atlas / "whole", atlas / "whole/further", atlas.parent / "certificates"
+    return sorted([*(atlas / "infinite").glob("*.mqp"), *(file for it in games for file in it.glob("*.mqw"))])
 
 
 def _infinite_of(files: Iterable[pathlib.Path]) -> Texts:

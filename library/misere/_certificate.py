@@ -46,9 +46,8 @@ class Certificate:
 
 
 class Part(NamedTuple):
-    """Which heaps a text of an infinite quotient, or a presentation, speaks of: those up to the last one, but for some; or
-    all, and then there is no last one. The letters of a presentation are words of these heaps; of other texts there are
-    none."""
+    """Which heaps a text of a whole game, or a presentation, speaks of: those up to the last one, but for some; or all, and
+    then there is no last one. The letters of a presentation are words of these heaps; a whole game has none."""
 
     code: str
     last_heap: int | None
@@ -57,22 +56,15 @@ class Part(NamedTuple):
 
 
 def read_part(text: str) -> Part:
-    """What an accepted text of an infinite quotient, or a presentation, says of its heaps. One of a whole game, mqw, speaks
-    of all. A heap that is left out is a minus in the line of the heaps' elements or words. If a presentation has a period,
-    its words repeat, and so do the heaps that it leaves out."""
+    """What an accepted text of a whole game, or a presentation, says of its heaps. One of a whole game, mqw, speaks of all. A
+    heap that a presentation leaves out is a minus in the line of the heaps' words. If it has a period, the words repeat,
+    and so do the heaps that it leaves out."""
     words = {name: words for name, *words in (line.split(" ") for line in text.splitlines()[:5])}
     if "mqw" in words:
         return Part(words["code"][0], None, ())
-    if "mqp" in words:
-        last, *period = words["heaps"]
-        letters = tuple(map(int, words["letters"]))
-        return Part(words["code"][0], None if period else int(last), _left_out(words["words"]), letters)
-    return Part(words["code"][0], int(words["heaps"][0]), _left_out(words["phi"]))
-
-
-def _left_out(words: Iterable[str]) -> tuple[int, ...]:
-    """The heaps with a minus, of words of the heaps 1, 2, .."""
-    return tuple(heap for heap, word in enumerate(words, 1) if word == "-")
+    last, *period = words["heaps"]
+    without = tuple(heap for heap, word in enumerate(words["words"], 1) if word == "-")
+    return Part(words["code"][0], None if period else int(last), without, tuple(map(int, words["letters"])))
 
 
 def read(text: str) -> Certificate:

@@ -9,7 +9,7 @@ import threading
 from collections.abc import Iterator
 from contextlib import contextmanager
 
-from ._faults import LIMIT_MET, OUTCOME, MisereError, fault
+from ._faults import LAW, LIMIT_MET, OUTCOME, MisereError, fault
 from ._given import words_of
 from ._library import Call, Opened, Told, library
 
@@ -71,12 +71,12 @@ class Certified:
         self._idle: list[Owner] = []
 
     @classmethod
-    def of(cls, certificate: bytes, limit: int) -> Certified:
+    def of(cls, certificate: bytes, *bounds: int) -> Certified:
         """That of an accepted certificate."""
         first = cls.owner()
-        status = cls.open(certificate, len(certificate), limit, *first.words)
+        status = cls.open(certificate, len(certificate), *bounds, *first.words)
         if status:
-            raise cls._refusal(status, certificate, limit, USUAL_HEAPS)
+            raise cls._refusal(status, certificate, bounds, USUAL_HEAPS)
         return cls(first)
 
     def lend(self) -> Owner:
@@ -133,17 +133,17 @@ class Certified:
                 return
 
     @classmethod
-    def _refusal(cls, status: int, certificate: bytes, limit: int, room: int) -> MisereError:
+    def _refusal(cls, status: int, certificate: bytes, bounds: tuple[int, ...], room: int) -> MisereError:
         """Why a certificate is refused. The position at which the rule of the game fails is told by a check of its own,
         and by one more if the room is too small for its heaps."""
         if status != OUTCOME:
             return fault(status, cls.meanings.get(status))
         told, count = array.array("Q", bytes(8 * room)), ctypes.c_uint64()
-        status = cls.failure(certificate, len(certificate), limit, *words_of(told), ctypes.addressof(count))
+        status = cls.failure(certificate, len(certificate), *bounds, *words_of(told), ctypes.addressof(count))
         if status != OUTCOME:
             return fault(status, cls.meanings.get(status))
         if count.value > room:
-            return cls._refusal(status, certificate, limit, count.value)
+            return cls._refusal(status, certificate, bounds, count.value)
         return fault(status, position=told[: count.value].tolist())
 
 
@@ -160,7 +160,7 @@ class Finite(Certified):
 
 
 class Infinite(Certified):
-    """A text of an infinite quotient, or a presentation."""
+    """A text of a whole game, or a presentation."""
 
     __slots__ = ()
     owner = InfiniteOwner
@@ -169,7 +169,10 @@ class Infinite(Certified):
     answer, answers = library.misere_infinite_answer, library.misere_infinite_answers
     describe = library.misere_infinite_describe
     order, value = library.misere_infinite_order, library.misere_infinite_value
-    meanings = {LIMIT_MET: "more pairs, places, points or changes than the check takes"}
+    meanings = {
+        LAW: "the relations do not reduce each word to one normal form",
+        LIMIT_MET: "larger than the check takes",
+    }
 
 
 # First owners are shared by one thread at a time. (A thread that a handler of signals interrupts may share again, and the

@@ -27,9 +27,8 @@ NAMES = {
     17: "NotOpen",
     23: "Beyond",
     31: "Part",
-    32: "Idle",
     33: "Undecided",
-    34: "Ray",
+    34: "Finite",
 }
 # So many heaps are listed one by one
 MOST_LISTED = 16
@@ -58,9 +57,8 @@ _MEANINGS = {
     17: "the quotient is closed",
     23: "the certificate does not speak of all the heaps",
     31: "some option of one of its heaps has a heap of which it does not speak",
-    32: "the region of some element has a place that no position with that element reaches",
     33: "the rule was not seen to hold, and no position was found at which it fails",
-    34: "the claim is right, but its three positions do not show that the quotient is infinite",
+    34: "the quotient is finite",
 }
 
 
@@ -147,7 +145,7 @@ class WrongType(MisereError, TypeError):
 
 
 _KINDS: dict[int, type[MisereError]] = {
-    **dict.fromkeys([*range(1, 9), *range(31, 35)], Refused),
+    **dict.fromkeys([*range(1, 9), 31, 33, 34], Refused),
     MEMORY: NoMemory,
     NOT_A_HEAP: NotAHeap,
     NOT_A_CODE: NotACode,

@@ -41,17 +41,16 @@ def check(certificate: Given, limit: int = LIMIT) -> Quotient:
     return Quotient(certificate, limit)
 
 
-def check_infinite(certificate: Given, limit: int = LIMIT) -> InfiniteQuotient:
-    """The infinite quotient that the certificate is of; or it raises Refused. The certificate is given as to `check`, and
-    begins with mqi 1, or with mqw 1 if it is of a whole game. A presentation, which begins with mqp 1, is taken too, though
-    its quotient may be finite."""
-    return InfiniteQuotient(certificate, limit)
+def check_infinite(certificate: Given) -> InfiniteQuotient:
+    """The infinite quotient that a text of a whole game is of, which begins with mqw 1, or the quotient that a presentation
+    is, which begins with mqp 1 and may be finite; or it raises Refused. The text is given as to `check`."""
+    return InfiniteQuotient(certificate)
 
 
 def verify(certificate: Given, limit: int = LIMIT) -> Quotient | InfiniteQuotient:
-    """The quotient that the certificate is of, finite or infinite, by its first word: what `check` gives, or of `mqi`, `mqw`
-    and `mqp` what `check_infinite` does; or it raises Refused. `misere verify` does so too."""
-    return InfiniteQuotient(certificate, limit) if is_infinite(certificate) else Quotient(certificate, limit)
+    """The quotient that the certificate is of, finite or infinite, by its first word: what `check` gives, or of `mqw` and
+    `mqp` what `check_infinite` does, which has no limit; or it raises Refused. `misere verify` does so too."""
+    return InfiniteQuotient(certificate) if is_infinite(certificate) else Quotient(certificate, limit)
 
 
 def certify(
@@ -115,23 +114,16 @@ def solve_any(code: str, order: int = MOST_BY_FEW, limit: int = LIMIT, rounds: i
         return solve_furthest(code, order, limit, rounds)
 
 
-def solve_infinite(
-    code: str,
-    heaps: int = INFINITE_HEAPS,
-    order: int = MOST_ELEMENTS,
-    limit: int = LIMIT,
-    *,
-    presented: bool = False,
-) -> InfiniteQuotient:
-    """An infinite quotient of the game of a code or a name: that of the whole game, if its text is found, or else that of the
-    heaps 1 to some heap up to `heaps`; or it raises NotFound. So does `misere solve CODE --infinite`. With `presented` it is
-    that of the heaps 1 to some heap by generators and relations, as with `--presented`. Some searches take a minute.
+def solve_infinite(code: str, heaps: int = INFINITE_HEAPS, *, presented: bool = False) -> InfiniteQuotient:
+    """An infinite quotient of the game of a code or a name: that of the whole game, if its text is found, or else that of
+    some of the heaps 1 to `heaps`, by generators and relations; or it raises NotFound. So does `misere solve CODE
+    --infinite`. With `presented` no text of the whole game is looked for, as with `--presented`. Some searches take minutes.
 
-    The heaps are 1 to 1024, the order 2 to 4096, and the limit 1 to 1000000."""
+    The heaps are 1 to 1024."""
     code, text = _code_given(code)
-    bounds = {"limit": number_of(limit), "heaps": number_of(heaps), "order": number_of(order)}
+    bounds = {"heaps": number_of(heaps)}
     call = library.misere_solve_presented if presented else library.misere_solve_infinite
-    status, told = told_by(MOST_BYTES, call, text, len(text), *bounds.values())
+    status, told = told_by(MOST_BYTES, call, text, len(text), bounds["heaps"])
     if status == GAVE_UP:
         why = told.decode().strip().removeprefix("gave up: ")
         found_none = NotFound(GAVE_UP, f"no infinite quotient of {code} was found; the reason is: {why}")
@@ -139,7 +131,7 @@ def solve_infinite(
         raise found_none
     if status:
         raise _explained(fault(status), code, PART, bounds)
-    return InfiniteQuotient(told, limit)
+    return InfiniteQuotient(told)
 
 
 def series(code: str, order: int = MOST_BY_FEW, limit: int = LIMIT, rounds: int = ROUNDS) -> Iterator[int]:

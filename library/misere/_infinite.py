@@ -10,9 +10,8 @@ from typing import Any, Literal, Optional
 from . import _certificate, _shown
 from ._answers import Apart, Triple
 from ._asked import Asked, Given, number_of_output
-from ._bounds import LIMIT
 from ._certified import Infinite
-from ._faults import NOT_DESCRIBED, NotDescribed, NotOpen, fault
+from ._faults import NOT_DESCRIBED, NotOpen, fault
 from ._given import heaps_of, refusal_of, words_of
 from ._library import told_by
 from ._telling import thirds
@@ -28,12 +27,11 @@ OUTPUTS: tuple[Optional[InfiniteOutput], ...] = ("description", "latex", None, "
 
 
 class InfiniteQuotient(Asked):
-    """A certified infinite misère quotient: the outcomes of all positions of some heaps of a game, or of all its positions,
-    which no finite quotient predicts. Or one that generators and relations present, which may be finite: `order` says so. It
-    is made by a check alone, and doesn't change. Any number of threads may ask it. It is closed, copied and pickled as a
-    Quotient is.
+    """A certified infinite misère quotient: the outcomes of all positions of a whole game, or of some of its heaps, which no
+    finite quotient predicts. One that generators and relations present may be finite: `order` says so. It is made by a check
+    alone, and doesn't change. Any number of threads may ask it. It is closed, copied and pickled as a Quotient is.
 
-    A game may have several certificates, with other heaps or monoids. They never contradict each other."""
+    A game may have several texts, of other heaps. They never contradict each other."""
 
     __slots__ = ("_order",)
     _calls, _check = Infinite, "check_infinite"
@@ -41,8 +39,8 @@ class InfiniteQuotient(Asked):
     _said: _certificate.Part
     _order: int | None
 
-    def __init__(self, certificate: Given, limit: int = LIMIT) -> None:
-        super().__init__(certificate, limit)
+    def __init__(self, certificate: Given) -> None:
+        super().__init__(certificate)
         self._said = _certificate.read_part(self._bytes.decode("ascii"))
         self._order = self._told_order()
 
@@ -63,7 +61,7 @@ class InfiniteQuotient(Asked):
 
     @property
     def order(self) -> int | None:
-        """How many elements a presented quotient has; None if it is infinite, as that of each other text is."""
+        """How many elements a presented quotient has; None if it is infinite, as that of each whole game is."""
         return self._order
 
     @property
@@ -72,21 +70,18 @@ class InfiniteQuotient(Asked):
 
     def value(self, heaps: Iterable[int]) -> Triple | str:
         """The element of a position. By a presentation it is a word in its letters, such as 'ab^2', or '1'; that is proved.
-        In a whole game it is a triple, which the module computes of the certificate's lists; `misere value` proves what it
-        prints. Two positions are indistinguishable exactly if these are equal. By a certificate with tracks it raises
-        NotDescribed."""
+        In a whole game it is a triple, which the module computes of the text's lists; `misere value` proves what it prints.
+        Two positions are indistinguishable exactly if these are equal."""
         given = heaps_of(heaps)
         if self.presented:
             return self._word_of(given)
-        if self.last_heap is not None:
-            raise fault(NOT_DESCRIBED, "a certificate with tracks has no triples")
         self.outcome(given)
         return WholeGame(self._bytes.decode("ascii")).triple_of(given)
 
     def apart(self, first: Iterable[int], second: Iterable[int]) -> Apart | None:
         """What tells two positions apart by a presentation: a third one, of as few heaps of its letters as can be, and the
-        outcomes of the two beside it. None if they are indistinguishable. By another text, and if no position that is tried
-        tells them apart, it raises NotDescribed. `misere apart` proves what it prints."""
+        outcomes of the two beside it. None if they are indistinguishable. By a text of a whole game, and if no position that
+        is tried tells them apart, it raises NotDescribed. `misere apart` proves what it prints."""
         if self._said.letters is None:
             raise fault(NOT_DESCRIBED, "only a presentation tells positions apart")
         one, other = heaps_of(first), heaps_of(second)
@@ -99,10 +94,8 @@ class InfiniteQuotient(Asked):
         raise fault(NOT_DESCRIBED, "they are distinguishable, and no position that was tried shows it")
 
     def describe(self, output: InfiniteOutput = "description") -> str:
-        """Its monoid, tracks and regions, and the positions that show that the quotient is infinite, with their outcomes:
-        what `misere infinite --show` prints. Of a presentation its generators, relations, portion and words, as `misere
-        describe` prints them. `output` is "description", "latex" or "json". That of a whole game, mqw, raises
-        NotDescribed."""
+        """The generators, relations, portion and words of a presentation, as `misere describe` prints them. `output` is
+        "description", "latex" or "json". By a text of a whole game it raises NotDescribed."""
         return self._text(number_of_output(output, OUTPUTS))
 
     def to_dict(self) -> dict[str, Any]:
@@ -115,10 +108,8 @@ class InfiniteQuotient(Asked):
         try:
             if self.presented:
                 return _shown.presented_html_of(self.to_dict())
-            if self.last_heap is None:
-                return _shown.whole_html_of(self.code, WholeGame(self._bytes.decode("ascii")))
-            return _shown.infinite_html_of(self.describe())
-        except (NotDescribed, NotOpen):
+            return _shown.whole_html_of(self.code, WholeGame(self._bytes.decode("ascii")))
+        except NotOpen:
             return None
 
     def __repr__(self) -> str:

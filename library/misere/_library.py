@@ -9,7 +9,7 @@ from typing import Any, Callable
 
 from ._faults import NO_ROOM, fault
 
-VERSION = 1
+VERSION = 2
 FILE = "libmisere.so.1"
 
 _number, _size = ctypes.c_uint32, ctypes.c_size_t
@@ -43,8 +43,8 @@ CALLS: dict[str, list[Any]] = {
     "misere_failure": [*_bytes, _number, _slice, _size, _count],
     "misere_solve": [*_bytes, _number, _number, _number, _number, _number, _slice, _size, _count],
     "misere_solve_why": [*_bytes, _number, _number, _number, _number, _number, _slice, _size, _count],
-    "misere_solve_infinite": [*_bytes, _number, _number, _number, _slice, _size, _count],
-    "misere_solve_presented": [*_bytes, _number, _number, _number, _slice, _size, _count],
+    "misere_solve_infinite": [*_bytes, _number, _slice, _size, _count],
+    "misere_solve_presented": [*_bytes, _number, _slice, _size, _count],
     "misere_certify": [*_bytes, _number, _slice, _size, _count],
     "misere_describe": [*_bytes, _number, _number, _number, _slice, _size, _count],
     "misere_open": [*_bytes, _number, _owner],
@@ -57,9 +57,9 @@ CALLS: dict[str, list[Any]] = {
     "misere_opened_values": [_owner, _slice, _size, _slice, _size, _slice, _size],
     "misere_opened_answers": [_owner, _slice, _size, _slice, _size, _slice, _size],
     "misere_opened_describe": [_owner, _number, _number, _slice, _size, _count],
-    "misere_check_infinite": [*_bytes, _number],
-    "misere_infinite_failure": [*_bytes, _number, _slice, _size, _count],
-    "misere_infinite_open": [*_bytes, _number, _owner],
+    "misere_check_infinite": [*_bytes],
+    "misere_infinite_failure": [*_bytes, _slice, _size, _count],
+    "misere_infinite_open": [*_bytes, _owner],
     "misere_infinite_share": [_owner, _owner],
     "misere_infinite_close": [_owner],
     "misere_infinite_kind": [_owner, _count],

@@ -48,24 +48,6 @@ def html_of(told: dict[str, Any]) -> str:
     return "<div>" + "<br>".join(lines) + _table(told["heaps"], _columns(period)) + ending + "</div>"
 
 
-def infinite_html_of(description: str) -> str:
-    """What shows that a quotient is infinite, out of the lines of its description: the positions with their outcomes in a
-    table, the heaps in another one. Products and regions are left out."""
-    lines = [line.split(" ") for line in description.splitlines()]
-    words = {name: rest for name, *rest in lines}
-    code, _, last, *without = words["infinite"]
-    order, _, tracks = words["order"]
-    head = f"<i>Q</i><sub>{last}</sub>(<b>{html.escape(code)}</b>) is infinite: heaps 1 to {last} {' '.join(without)}"
-    shown = [head.rstrip(), f"{order} elements, {tracks} track{'s' * (tracks != '1')}"]
-    shown += [f"{name} {' '.join(words[name])}" for name in ("base", "up", "down")]
-    shown += [" ".join(line) for line in lines if line[0] == "track"]
-    shown.append("outcomes of base + j·up + k·down")
-    outcomes = {line[0]: line[1:] for line in lines if line[0].startswith("j=")}
-    family = _rows("", [f"k={downs}" for downs in range(len(outcomes["j=0"]))], outcomes)
-    heaps = {line[1]: [line[3], " ".join(line[5:])] for line in lines if line[0] == "heap"}
-    return f"<div>{'<br>'.join(shown)}{family}{_rows('heap', ['element', '(down, up)'], heaps)}</div>"
-
-
 def presented_html_of(told: dict[str, Any]) -> str:
     """What a presentation says in lines, with the words of the heaps in a table, of its values in JSON."""
     period, heaps = told["period"], told["heaps"]

@@ -79,7 +79,7 @@ def files_of(version: str, tag: str) -> dict[str, bytes]:
     files[f"misere/{LIBRARY}"] = (here / LIBRARY).read_bytes()
     files["misere/VERSION"] = (here.parent / "VERSION").read_bytes()
     atlas = here.parent / "atlas"
-    certificates = [*sorted(atlas.glob("*.json")), *sorted(atlas.glob("infinite/*.mqi"))]
+    certificates = [*sorted(atlas.glob("*.json")), *sorted(atlas.glob("infinite/*.mqp"))]
     files.update({f"misere/atlas/{it.relative_to(atlas)}": it.read_bytes() for it in certificates})
     games = sorted([*atlas.glob("whole/*.mqw"), *(here.parent / "certificates").glob("*.mqw")])
     files.update({f"misere/atlas/whole/{it.name}": it.read_bytes() for it in games})

@@ -16,11 +16,6 @@ def quotient(name: str) -> misere.Quotient:
     return misere.check((samples / f"{name}.mqc").read_bytes())
 
 
-def infinite(name: str) -> misere.InfiniteQuotient:
-    """That of a sample of an infinite quotient."""
-    return misere.check_infinite((samples / f"{name}.mqi").read_bytes())
-
-
 def whole(code: str) -> misere.InfiniteQuotient:
     """That of a sample of a whole game."""
     return misere.check_infinite((samples / f"{code}.mqw").read_bytes())

@@ -1,5 +1,5 @@
-/* What is told of opened infinite quotients: of 0.354 to heap 5, and of Dawson's Kayles, 0.07, to heap 34 without 33, of
- * which docs/INFINITE.md has the families; and of all heaps of 0.26, of which docs/WHOLE.md has the theorem.
+/* What is told of opened infinite quotients: of 0.354 to heap 5, of which docs/INFINITE.md has the family; and of all heaps
+ * of 0.26, of which docs/WHOLE.md has the theorem.
  * cc infinite.c ../libmisere.a -o infinite && ./infinite FOLDER-OF-CERTIFICATES */
 #include "../misere.h"
 #include <stdio.h>
@@ -38,20 +38,20 @@ static void refuse(const char *folder) {
         const char *name;
         uint32_t status;
     } rows[] = {
-        {"refused/outcome_at_two_and_three.mqi", MISERE_OUTCOME},
-        {"refused/ray_down_too_short.mqi", MISERE_RAY},
+        {"refused/outcome_at_two_twos.mqp", MISERE_OUTCOME},
+        {"refused/part_heap_left_out.mqp", MISERE_LEAVES},
         {"0.33.mqc", MISERE_TEXT},
     };
     for (size_t at = 0; at < sizeof rows / sizeof *rows; at++) {
         misere_infinite one = MISERE_INFINITE_CLOSED;
         uint64_t heaps[4] = {7, 7, 7, 7}, count = 7;
         take(folder, rows[at].name);
-        stop_unless(misere_check_infinite(bytes, length, MISERE_LIMIT) == rows[at].status, rows[at].name);
-        stop_unless(misere_infinite_open(bytes, length, MISERE_LIMIT, &one) == rows[at].status, rows[at].name);
+        stop_unless(misere_check_infinite(bytes, length) == rows[at].status, rows[at].name);
+        stop_unless(misere_infinite_open(bytes, length, &one) == rows[at].status, rows[at].name);
         stop_unless(misere_infinite_close(&one) == MISERE_NOT_OPEN, rows[at].name);
-        stop_unless(misere_infinite_failure(bytes, length, MISERE_LIMIT, heaps, 4, &count) == rows[at].status, rows[at].name);
+        stop_unless(misere_infinite_failure(bytes, length, heaps, 4, &count) == rows[at].status, rows[at].name);
         if (at) stop_unless(count == 7 && heaps[0] == 7, "a position is told where none fails");
-        else stop_unless(count == 2 && heaps[0] == 2 && heaps[1] == 3 && heaps[2] == 7, "another position fails");
+        else stop_unless(count == 2 && heaps[0] == 2 && heaps[1] == 2 && heaps[2] == 7, "another position fails");
     }
 }
 
@@ -75,24 +75,24 @@ static void of_0_354(misere_infinite *opened) {
     stop_unless(move.kind == MISERE_WINS && move.heap == 4 && move.first == 3 && !move.second, "not 4 -> 3");
 }
 
-/* 25 + j 30 + k 34, with j at least 1 and k at least 2, is P exactly if k is at most j and k - j is even. */
-static void of_dawsons_kayles(misere_infinite *opened) {
+/* The same of many positions at once. */
+static void of_0_354_at_once(misere_infinite *opened) {
     uint64_t heaps[64 * 49], ends[49];
     uint32_t numbers[49];
     misere_move moves[49];
     size_t count = 0, all = 0;
     for (size_t j = 1; j < 8; j++)
-        for (size_t k = 2; k < 9; k++) {
-            count += put(heaps + count, 25, 30, j, 34, k);
+        for (size_t i = 10; i < 17; i++) {
+            count += put(heaps + count, 4, 2, j, 5, i);
             ends[all++] = count;
         }
-    stop_unless(!misere_infinite_outcomes(opened, heaps, count, ends, all, numbers, all), "no outcomes of 0.07");
-    stop_unless(!misere_infinite_answers(opened, heaps, count, ends, all, moves, all), "no moves of 0.07");
+    stop_unless(!misere_infinite_outcomes(opened, heaps, count, ends, all, numbers, all), "no outcomes of 0.354");
+    stop_unless(!misere_infinite_answers(opened, heaps, count, ends, all, moves, all), "no moves of 0.354");
     for (size_t at = 0, j = 1; j < 8; j++)
-        for (size_t k = 2; k < 9; k++, at++) {
-            int lost = k <= j && (j - k) % 2 == 0;
-            stop_unless(numbers[at] == (lost ? MISERE_P : MISERE_N), "another outcome of 0.07");
-            stop_unless(moves[at].kind == (lost ? MISERE_LOST : MISERE_WINS), "another move of 0.07");
+        for (size_t i = 10; i < 17; i++, at++) {
+            int lost = i >= 3 * j + 4 && (i - 3 * j - 4) % 6 == 0;
+            stop_unless(numbers[at] == (lost ? MISERE_P : MISERE_N), "another outcome of many");
+            stop_unless(moves[at].kind == (lost ? MISERE_LOST : MISERE_WINS), "another move of many");
         }
     stop_unless(misere_infinite_outcomes(opened, heaps, count, ends, all, numbers, all - 1) == MISERE_NOT_ENDS, "no room");
 }
@@ -137,7 +137,7 @@ static void of_0_26(misere_infinite *opened) {
     stop_unless(misere_infinite_describe(opened, MISERE_JSON, code, 4, &kind) == MISERE_NOT_DESCRIBED, "it is described");
 }
 
-/* Heaps that aren't any, and heaps of which the certificate doesn't speak; and owners that are closed. */
+/* Heaps that aren't any, and heaps of which the text doesn't speak; and owners that are closed. */
 static void refuse_heaps(misere_infinite *opened, uint64_t beyond) {
     uint64_t heaps[2] = {1, beyond}, none[2] = {beyond, 0};
     uint32_t number = 77;
@@ -160,16 +160,13 @@ int main(int argc, char **argv) {
     if (argc != 2) return 2;
     refuse(argv[1]);
     misere_infinite opened = MISERE_INFINITE_CLOSED;
-    take(argv[1], "0.354_heaps_5.mqi");
-    stop_unless(!misere_infinite_open(bytes, length, MISERE_LIMIT, &opened), "0.354 isn't opened");
+    take(argv[1], "0.354_heaps_5.mqp");
+    stop_unless(!misere_infinite_open(bytes, length, &opened), "0.354 isn't opened");
     of_0_354(&opened);
+    of_0_354_at_once(&opened);
     refuse_heaps(&opened, 6);
-    take(argv[1], "0.07_heaps_34_without_33.mqi");
-    stop_unless(!misere_infinite_open(bytes, length, MISERE_LIMIT, &opened), "0.07 isn't opened");
-    of_dawsons_kayles(&opened);
-    refuse_heaps(&opened, 33);
     take(argv[1], "0.26.mqw");
-    stop_unless(!misere_infinite_open(bytes, length, MISERE_LIMIT, &opened), "0.26 isn't opened");
+    stop_unless(!misere_infinite_open(bytes, length, &opened), "0.26 isn't opened");
     of_0_26(&opened);
     stop_unless(!misere_infinite_close(&opened), "0.26 isn't closed");
     return 0;

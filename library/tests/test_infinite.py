@@ -19,9 +19,10 @@ from typing import Any, NamedTuple, get_args
 
 import misere
 from compare import search_of
-from tests import infinite, quotient, raised, samples, top, whole
+from tests import presented, quotient, raised, samples, top, whole
 
 SMALL, THREADS = 200, 8
+LEFT_OUT = top / "atlas/infinite/0.5e_heaps_17_without_16.mqp"
 
 
 def outcome_of(twos: int, fives: int) -> str:
@@ -59,14 +60,14 @@ def triple_of_26(heaps: Sequence[int]) -> misere.Triple:
 
 
 class Infinite(unittest.TestCase):
-    of = infinite("0.354_heaps_5")
+    of = presented("0.354_heaps_5")
 
     def test_it_says_of_which_heaps_it_speaks(self) -> None:
         self.assertEqual((self.of.code, self.of.last_heap, self.of.without), ("0.354", 5, ()))
         self.assertEqual(repr(self.of), "<infinite misère quotient of 0.354: heaps to 5>")
-        part = infinite("0.07_heaps_34_without_33")
-        self.assertEqual((part.code, part.last_heap, part.without), ("0.07", 34, (33,)))
-        self.assertEqual(repr(part), "<infinite misère quotient of 0.07: heaps to 34 without 33>")
+        part = misere.check_infinite(LEFT_OUT)
+        self.assertEqual((part.code, part.last_heap, part.without), ("0.5e", 17, (16,)))
+        self.assertEqual(repr(part), "<infinite misère quotient of 0.5e: heaps to 17 without 16>")
 
     def test_a_family_is_told_as_it_is(self) -> None:
         numbers = list(itertools.product(range(1, 9), range(1, 40)))
@@ -98,31 +99,24 @@ class Infinite(unittest.TestCase):
                 heaps.remove(move.heap)
                 self.assertEqual(self.of.outcome(heaps + list(move.left)), "P", (heaps, move))
 
-    def test_dawson_s_kayles_is_told_to_heap_34(self) -> None:
-        of = infinite("0.07_heaps_34_without_33")
-        for j, k in itertools.product(range(1, 8), range(2, 8)):
-            expected = "P" if k <= j and (j - k) % 2 == 0 else "N"
-            self.assertEqual(of.outcome([25] + [30] * j + [34] * k), expected, (j, k))
-
     def test_it_is_described(self) -> None:
         texts = [self.of.describe(it) for it in get_args(misere.InfiniteOutput)]
         self.assertEqual((len(set(texts)), texts[0]), (3, self.of.describe()))
         told = self.of.to_dict()
         self.assertEqual(told, json.loads(texts[2]))
-        self.assertEqual((told["code"], told["last"], told["order"]), ("0.354", 5, 12))
-        self.assertEqual((told["base"], told["up"], told["down"]), ([2, 4, 5], [5] * 6, [2, 2]))
-        self.assertEqual(told["elements"], [1, 2, 3, 4, 3])
-        part = infinite("0.07_heaps_34_without_33").to_dict()
-        self.assertEqual((part["last"], part["elements"][32]), (34, None))
+        self.assertEqual((told["code"], told["heaps"], told["order"]), ("0.354", 5, None))
+        self.assertEqual(told["words"], ["a", "b", "c^2", "c", "d"])
+        part = misere.check_infinite(LEFT_OUT).to_dict()
+        self.assertEqual((part["heaps"], part["words"][15]), (17, None))
 
     def test_it_is_a_value(self) -> None:
-        again = infinite("0.354_heaps_5")
+        again = presented("0.354_heaps_5")
         self.assertEqual(({self.of, again}, self.of == quotient("0.33")), ({self.of}, False))
         for other in (copy.copy(self.of), copy.deepcopy(self.of), pickle.loads(pickle.dumps(self.of))):
             self.assertEqual((other, other.outcome([2, 5])), (self.of, self.of.outcome([2, 5])))
 
     def test_a_closed_one_is_asked_no_more(self) -> None:
-        with infinite("0.354_heaps_5") as it:
+        with presented("0.354_heaps_5") as it:
             other = copy.copy(it)
         self.assertEqual((it.closed, it.code, it.last_heap, other.outcome([1])), (True, "0.354", 5, "P"))
         calls: list[Callable[[], object]] = [
@@ -211,13 +205,10 @@ def wrong(given: Any) -> Any:
     return given
 
 
-def refused(name: str) -> Callable[[], object]:
-    return lambda: misere.check_infinite(samples / f"refused/{name}.mqi")
-
-
 OF = Infinite.of
+# It says that 2 + 3 is P, which is N
+WRONG = OF.certificate.replace(b"ad^2 d^3", b"ad^2 bc^2 d^3")
 ROWS = [
-    Row("no triple by tracks", lambda: OF.value([1]), misere.NotDescribed, 16, "has no triples"),
     Row("no heap for a triple", lambda: Whole.of.value([2, 0]), misere.NotAHeap, 10, "0 isn't, at [1]"),
     Row("no heap", lambda: OF.outcome([1, 0]), misere.NotAHeap, 10, "0 isn't, at [1]"),
     Row("no heap of many", lambda: OF.answers([[1], [2, -1]]), misere.NotAHeap, 10, "-1 isn't, at [1, 1]"),
@@ -225,10 +216,10 @@ ROWS = [
     Row("beyond of many", lambda: OF.outcomes([[1], [5, 7]]), misere.Beyond, 23, "not of 7"),
     Row(
         "a heap that is left out",
-        lambda: infinite("0.07_heaps_34_without_33").answer([33]),
+        lambda: misere.check_infinite(LEFT_OUT).answer([16]),
         misere.Beyond,
         23,
-        "speaks of heaps to 34 without 33 alone, and not of 33",
+        "speaks of heaps to 17 without 16 alone, and not of 16",
     ),
     Row(
         "no heap of a whole game", lambda: Whole.of.outcome([10**18 + 1]), misere.NotAHeap, 10, "000001 isn't, at [0]"
@@ -245,13 +236,6 @@ ROWS = [
         "misere.check checks such a text",
     ),
     Row(
-        "one of an infinite quotient",
-        lambda: misere.check(samples / "0.354_heaps_5.mqi"),
-        misere.Refused,
-        1,
-        "misere.check_infinite checks such a text",
-    ),
-    Row(
         "one of a whole game",
         lambda: misere.check(samples / "0.26.mqw"),
         misere.Refused,
@@ -265,7 +249,8 @@ ROWS = [
         1,
         "misere.check_infinite checks such a text",
     ),
-    Row("nothing that tells apart", lambda: OF.apart([1], [2]), misere.NotDescribed, 16, "only a presentation tells"),
+    Row("with tracks", lambda: misere.verify("mqi 1\n"), misere.Refused, 1, "the bytes spell no certificate"),
+    Row("nothing that tells apart", lambda: Whole.of.apart([1], [2]), misere.NotDescribed, 16, "only a presentation"),
     Row(
         "a table of one's own",
         lambda: misere.verify(b"table 1\ncode 0.3\n"),
@@ -282,16 +267,12 @@ ROWS = [
     ),
     Row(
         "a file's name",
-        lambda: misere.check_infinite(str(samples / "0.354_heaps_5.mqi")),
+        lambda: misere.check_infinite(str(samples / "0.354_heaps_5.mqp")),
         misere.Refused,
         1,
         "misere.check_infinite(pathlib.Path(",
     ),
-    Row(
-        "limit met", lambda: misere.check_infinite(OF.certificate, 1), misere.Refused, 8, "8 Limit: more pairs, places"
-    ),
-    Row("a ray that is none", refused("ray_down_too_short"), misere.Refused, 34, "34 Ray: the claim is right"),
-    Row("a wrong outcome", refused("outcome_at_two_and_three"), misere.Refused, 7, "fails at a position: [2, 3]"),
+    Row("a wrong outcome", lambda: misere.check_infinite(WRONG), misere.Refused, 7, "fails at a position: [2, 3]"),
     Row("no entry", lambda: misere.InfiniteCatalogue()["0.33"], misere.Absent, 0, "no entry of '0.33'"),
     Row(
         "finite quotients alone",
@@ -302,10 +283,10 @@ ROWS = [
     ),
     Row(
         "a search of too many heaps",
-        lambda: misere.solve_infinite("0.26", heaps=1025, order=1),
+        lambda: misere.solve_infinite("0.26", heaps=1025),
         misere.NotInRange,
         15,
-        "order is 2 to 4096, and 1 isn't; heaps is 1 to 1024, and 1025 isn't",
+        "heaps is 1 to 1024, and 1025 isn't",
     ),
     Row("a search of no code", lambda: misere.solve_infinite("0.260"), misere.NotACode, 12, "'0.260' is none"),
     Row("a search of no text", lambda: misere.solve_infinite(wrong(26)), misere.WrongType, 12, "and not 26"),
@@ -315,10 +296,7 @@ ROWS = [
 class Searches(unittest.TestCase):
     def test_infinite_quotients_are_found(self) -> None:
         self.assertEqual(misere.solve_infinite("0.26"), whole("0.26"))
-        part, known = misere.solve_infinite("0.404"), misere.InfiniteCatalogue()["0.404"]
-        self.assertEqual((part.code, part.last_heap, part.without), ("0.404", 12, known.without))
-        positions = list(itertools.combinations_with_replacement(range(1, 13), 4))
-        self.assertEqual(part.outcomes(positions), known.outcomes(positions))
+        self.assertEqual(misere.solve_infinite("0.404"), misere.InfiniteCatalogue()["0.404"])
 
 
 class Faults(unittest.TestCase):
@@ -333,7 +311,7 @@ class Faults(unittest.TestCase):
 
 class Verified(unittest.TestCase):
     def test_each_kind_is_told_by_its_first_word(self) -> None:
-        for file, kind in (("0.33.mqc", misere.Quotient), ("0.354_heaps_5.mqi", misere.InfiniteQuotient)):
+        for file, kind in (("0.33.mqc", misere.Quotient), ("0.354_heaps_5.mqp", misere.InfiniteQuotient)):
             self.assertIsInstance(misere.verify(samples / file), kind, file)
         self.assertEqual(misere.verify(Whole.of.certificate), Whole.of)
         self.assertEqual(misere.verify(quotient("0.33").certificate.decode()), quotient("0.33"))
@@ -343,7 +321,7 @@ class Catalogues(unittest.TestCase):
     atlas = misere.InfiniteCatalogue()
 
     def test_the_atlas_has_each_code_of_its_files(self) -> None:
-        files = [*(top / "atlas").glob("**/*.mq[iw]"), *samples.glob("*.mq[iw]")]
+        files = [*(top / "atlas").glob("**/*.mq[pw]"), *samples.glob("*.mqw")]
         codes = {file.stem.partition("_")[0] for file in files}
         self.assertEqual((set(self.atlas), len(self.atlas)), (codes, len(codes)))
 
@@ -359,7 +337,7 @@ class Catalogues(unittest.TestCase):
     def test_a_part_has_its_last_heap(self) -> None:
         files = {34: "0.07_heaps_34", 36: "0.07_heaps_36", 37: "0.07_heaps_37"}
         for last, name in files.items():
-            text = (top / f"atlas/infinite/{name}.mqi").read_text()
+            text = (top / f"atlas/infinite/{name}.mqp").read_text()
             self.assertEqual(self.atlas.certificate(("0.07", last)), text, last)
         self.assertEqual(self.atlas.certificate("0.07"), self.atlas.certificate(("0.07", 34)))
         self.assertEqual((self.atlas._furthest["0.07"], self.atlas.furthest("0.354")), (37, Infinite.of))
@@ -375,4 +353,6 @@ class Catalogues(unittest.TestCase):
                 (set(games), games["0.26"], games["4.7", 0]), ({"0.26", "4.7"}, whole("0.26"), whole("4.7"))
             )
             pathlib.Path(folder, "a.mqi").write_text("mqi 1\n")
+            self.assertEqual(len(misere.InfiniteCatalogue(folder)), 2)
+            pathlib.Path(folder, "a.mqp").write_text("mqp 1\n")
             self.assertIsInstance(raised(lambda: misere.InfiniteCatalogue(folder)), misere.Refused)

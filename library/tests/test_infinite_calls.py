@@ -1,7 +1,6 @@
-"""The calls on infinite quotients as they are built: of 0.354 with the heaps 1 to 5, and of all heaps of 0.26; and those on
-presentations, of 0.404 with the heaps 1 to 12, of 0.75 to heap 22, and of Kayles. Others found
-the first one's certificate, and refused the two that are near it; its outcomes are those of other programs, by a search
-through all plays. Those of 0.26 are by its theorem, which docs/WHOLE.md proves by hand."""
+"""The calls on whole games and presentations as they are built: of all heaps of 0.26; of 0.354 with the heaps 1 to 5, of
+0.404 to heap 12, of 0.75 to heap 22, and of Kayles. The outcomes of 0.354 are those of other programs, by a search through
+all plays. Those of 0.26 are by its theorem, which docs/WHOLE.md proves by hand."""
 
 from __future__ import annotations
 
@@ -10,12 +9,11 @@ import unittest
 from typing import Any, NamedTuple
 
 from misere._library import Opened
-from tests import samples
+from tests import samples, top
 from tests.raw_calls import (
     NO_MOVE,
     UNCOUNTED,
     UNTOLD,
-    Check,
     Move,
     called,
     front,
@@ -27,12 +25,9 @@ from tests.raw_calls import (
     words,
 )
 
-LIMIT = 100_000
-RIGHT = (samples / "0.354_heaps_5.mqi").read_bytes()
-# It says that 2 + 3 is P, which is N; and its down takes back half of its up
-WRONG, SHORT = (
-    (samples / f"refused/{it}.mqi").read_bytes() for it in ("outcome_at_two_and_three", "ray_down_too_short")
-)
+RIGHT = (samples / "0.354_heaps_5.mqp").read_bytes()
+# It says that 2 + 3 is P, which is N
+WRONG = RIGHT.replace(b"ad^2 d^3", b"ad^2 bc^2 d^3")
 # A text of a whole game; one which says that heap 9 never rules, so that heap 9 alone is wrong; and one which gives heap
 # 1, of weight 0, a lead: right of each outcome, but no such triple is an element
 WHOLE = (samples / "0.26.mqw").read_bytes()
@@ -47,34 +42,39 @@ UNJOINED, LEAVING = (
 MISTAKEN = FINITE.replace(b"portion a", b"portion 1 a")
 
 
+class Check(NamedTuple):
+    """A text, and the status of its check."""
+
+    name: str
+    text: bytes
+    status: int
+
+
 CHECKS = [
-    Check("right", RIGHT, LIMIT, 0),
-    Check("no text", b"", LIMIT, 1),
-    Check("P at 2 + 3", WRONG, LIMIT, 7),
-    Check("a limit of 1", RIGHT, 1, 8),
-    Check("a ray too short", SHORT, LIMIT, 34),
-    Check("of a whole game", WHOLE, LIMIT, 0),
-    Check("of a whole game, which has no limit", WHOLE, 1, 0),
-    Check("heap 9 never rules", UNRULED, LIMIT, 7),
-    Check("a text that no heap breaks, and no element", LEADING, LIMIT, 33),
-    Check("no end of a whole game", WHOLE[:-4], LIMIT, 1),
-    Check("another format of whole games", WHOLE.replace(b"mqw 1", b"mqw 2"), LIMIT, 1),
-    Check("presented", PRESENTED, LIMIT, 0),
-    Check("presented, which has no limit", FINITE, 1, 0),
-    Check("presented, of a whole game", KAYLES, LIMIT, 0),
-    Check("no end of a presentation", FINITE[:-4], LIMIT, 1),
-    Check("a pair that doesn't join", UNJOINED, LIMIT, 2),
-    Check("an option with no word", LEAVING, LIMIT, 31),
-    Check("a wrong portion", MISTAKEN, LIMIT, 7),
-    Check("that of a finite quotient", (samples / "0.33.mqc").read_bytes(), LIMIT, 1),
+    Check("no text", b"", 1),
+    Check("of a whole game", WHOLE, 0),
+    Check("heap 9 never rules", UNRULED, 7),
+    Check("a text that no heap breaks, and no element", LEADING, 33),
+    Check("no end of a whole game", WHOLE[:-4], 1),
+    Check("another format of whole games", WHOLE.replace(b"mqw 1", b"mqw 2"), 1),
+    Check("presented", RIGHT, 0),
+    Check("presented, of a finite quotient", FINITE, 0),
+    Check("presented, of a whole game", KAYLES, 0),
+    Check("no end of a presentation", FINITE[:-4], 1),
+    Check("P at 2 + 3", WRONG, 7),
+    Check("a pair that doesn't join", UNJOINED, 2),
+    Check("an option with no word", LEAVING, 31),
+    Check("a wrong portion", MISTAKEN, 7),
+    Check("with tracks", b"mqi 1\n" + RIGHT.partition(b"\n")[2], 1),
+    Check("that of a finite quotient", (samples / "0.33.mqc").read_bytes(), 1),
 ]
 
 
 class Failure(NamedTuple):
-    """A certificate, and how much room there is in memory for four; the status, the length, and the heaps that are told."""
+    """A text, and how much room there is in memory for four; the status, the length, and the heaps that are told."""
 
     name: str
-    certificate: bytes
+    text: bytes
     room: int
     status: int
     length: int
@@ -83,7 +83,7 @@ class Failure(NamedTuple):
 
 FAILURES = [
     Failure("right", RIGHT, 4, 0, UNCOUNTED, [UNTOLD] * 4),
-    Failure("a ray too short", SHORT, 4, 34, UNCOUNTED, [UNTOLD] * 4),
+    Failure("no text", b"", 4, 1, UNCOUNTED, [UNTOLD] * 4),
     Failure("at two heaps with room for one", WRONG, 1, 7, 2, [UNTOLD] * 4),
     Failure("at two heaps", WRONG, 4, 7, 2, [2, 3, UNTOLD, UNTOLD]),
     Failure("heap 9 never rules", UNRULED, 4, 7, 1, [9, UNTOLD, UNTOLD, UNTOLD]),
@@ -102,7 +102,7 @@ class Said(NamedTuple):
 
 SAID = [
     Said(RIGHT, b"0.354", 5),
-    Said((samples / "0.07_heaps_34_without_33.mqi").read_bytes(), b"0.07", 34),
+    Said((top / "atlas/infinite/0.5e_heaps_17_without_16.mqp").read_bytes(), b"0.5e", 17),
     Said(WHOLE, b"0.26", 0),
     Said((samples / "0.f3.mqw").read_bytes(), b"0.f3", 0),
     Said(PRESENTED, b"0.404", 12),
@@ -132,7 +132,6 @@ WORDS = [
     Word("no heap's size", PRESENTED, [1, 0], 8, 10, UNCOUNTED),
     Word("no word", PRESENTED, [13], 8, 23, UNCOUNTED),
     Word("repeated", KAYLES, [1000], 8, 0, 4, b"ab^2"),
-    Word("by tracks", RIGHT, [1], 8, 16, UNCOUNTED),
     Word("by triples", WHOLE, [0], 8, 16, UNCOUNTED),
 ]
 
@@ -261,8 +260,8 @@ class Described(NamedTuple):
 
 
 DESCRIBED = [
-    Described("plain", 0, 4096, 0),
-    Described("LaTeX", 1, 4096, 0),
+    Described("plain", 0, 4096, 0, b"Q_5(0.354) = < a,b,c,d | a^2=1"),
+    Described("LaTeX", 1, 4096, 0, b"\\begin{flushleft}"),
     Described("relations, which there are none of", 2, 4096, 15),
     Described("JSON", 3, 4096, 0, b"{"),
     Described("no such output", 4, 4096, 15),
@@ -270,9 +269,9 @@ DESCRIBED = [
 ]
 
 
-def opened(certificate: bytes = RIGHT) -> Opened:
+def opened(given: bytes = RIGHT) -> Opened:
     owner = Opened()
-    if status := called("misere_infinite_open", certificate, LIMIT, owner):
+    if status := called("misere_infinite_open", given, owner):
         raise AssertionError(f"nothing was opened: {status}")
     return owner
 
@@ -290,27 +289,27 @@ def answer_of(owner: Opened, heaps: list[int]) -> tuple[int, Move, list[int]]:
 
 
 class Opening(unittest.TestCase):
-    def test_infinite_quotients_are_checked_and_opened(self) -> None:
+    def test_texts_are_checked_and_opened(self) -> None:
         for row in CHECKS:
             with self.subTest(row.name):
                 owner = Opened()
-                self.assertEqual(called("misere_check_infinite", row.certificate, row.limit), row.status)
-                self.assertEqual(called("misere_infinite_open", row.certificate, row.limit, owner), row.status)
+                self.assertEqual(called("misere_check_infinite", row.text), row.status)
+                self.assertEqual(called("misere_infinite_open", row.text, owner), row.status)
                 self.assertEqual(called("misere_infinite_close", owner), 17 if row.status else 0)
 
-    def test_failures_of_tracks_are_told(self) -> None:
+    def test_failures_are_told(self) -> None:
         for row in FAILURES:
             with self.subTest(row.name):
                 told, count = words([UNTOLD] * 4), ctypes.c_uint64(UNCOUNTED)
-                status = called("misere_infinite_failure", row.certificate, LIMIT, front(told, row.room), count)
+                status = called("misere_infinite_failure", row.text, front(told, row.room), count)
                 self.assertEqual((status, count.value, told_in(told)), (row.status, row.length, row.told))
 
     def test_infinite_owners_are_made_and_closed(self) -> None:
         one, other = Opened(), Opened()
         self.assertEqual(called("misere_infinite_share", one, other), 17)
-        self.assertEqual(called("misere_infinite_open", RIGHT, LIMIT, one), 0)
+        self.assertEqual(called("misere_infinite_open", RIGHT, one), 0)
         self.assertEqual(called("misere_infinite_share", one, other), 0)
-        self.assertEqual(called("misere_infinite_open", SHORT, LIMIT, one), 34)
+        self.assertEqual(called("misere_infinite_open", WRONG, one), 7)
         self.assertEqual([called("misere_infinite_close", one) for _ in range(2)], [0, 17])
         self.assertEqual(outcome_of(one, [1]), (17, UNTOLD))
         self.assertEqual(outcome_of(other, [1]), (0, 0))
@@ -352,14 +351,6 @@ class Opening(unittest.TestCase):
                 self.assertEqual(bytes(told), row.word.ljust(8, bytes([UNTOLD])))
                 self.assertEqual(called("misere_infinite_close", owner), 0)
 
-    def test_presentations_are_described(self) -> None:
-        owner = opened(PRESENTED)
-        for output, status, beginning in ((0, 0, b"Q_12(0.404) = < a,b"), (1, 0, b"\\begin{flushleft}"), (2, 15, b"")):
-            told, count = text(4096), ctypes.c_uint64(UNCOUNTED)
-            self.assertEqual(called("misere_infinite_describe", owner, output, told, count), status, output)
-            self.assertEqual(bytes(told)[: len(beginning)], beginning)
-        self.assertEqual(called("misere_infinite_close", owner), 0)
-
     def test_whole_games_are_not_described(self) -> None:
         owner = opened(WHOLE)
         for output, status in ((0, 16), (1, 16), (2, 15), (3, 16), (4, 15)):
@@ -368,7 +359,7 @@ class Opening(unittest.TestCase):
             self.assertEqual((count.value, set(told)), (UNCOUNTED, {UNTOLD}), output)
         self.assertEqual(called("misere_infinite_close", owner), 0)
 
-    def test_infinite_quotients_are_described(self) -> None:
+    def test_presentations_are_described(self) -> None:
         told, count = text(4096), ctypes.c_uint64(UNCOUNTED)
         self.assertEqual(called("misere_infinite_describe", Opened(), 0, told, count), 17)
         self.assertEqual((count.value, set(told)), (UNCOUNTED, {UNTOLD}))
@@ -401,7 +392,7 @@ class Answering(unittest.TestCase):
                 self.assertEqual(answer_of(owner, row.heaps), (row.status, NO_MOVE, row.heaps))
         self.assertEqual(called("misere_infinite_close", owner), 0)
 
-    def test_moves_by_tracks_are_told(self) -> None:
+    def test_moves_are_told(self) -> None:
         owner = opened()
         for row in MOVED:
             with self.subTest(row.name):
@@ -439,7 +430,7 @@ class Answering(unittest.TestCase):
             self.assertEqual(answer_of(owner, heaps), (status, NO_MOVE, heaps))
         self.assertEqual(called("misere_infinite_close", owner), 0)
 
-    def test_many_positions_by_tracks_are_told(self) -> None:
+    def test_many_positions_are_told(self) -> None:
         told = numbers(3)
         closed = called("misere_infinite_outcomes", Opened(), words(HEAPS), words([9]), told)
         self.assertEqual((closed, told_in(told)), (17, [UNTOLD] * 3))

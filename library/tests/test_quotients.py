@@ -130,5 +130,5 @@ class Found(unittest.TestCase):
 class Versions(unittest.TestCase):
     def test_the_version_stands_in_one_place(self) -> None:
         version = (top / "VERSION").read_text().strip()
-        self.assertEqual((misere.__version__, misere.version()), (version, 1))
+        self.assertEqual((misere.__version__, misere.version()), (version, 2))
         self.assertIn(f'\nversion = "{version}"\n', (top / "library/rust/Cargo.toml").read_text())

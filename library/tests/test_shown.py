@@ -7,7 +7,7 @@ import unittest
 from html.parser import HTMLParser
 
 import misere
-from tests import infinite, quotient, samples, whole
+from tests import quotient, samples, whole
 
 
 class Balanced(HTMLParser):
@@ -47,16 +47,6 @@ class Shown(unittest.TestCase):
         self.assertTrue(text.startswith("Q8(0.75) = "), text)
         self.assertIn("P8 = {", text)
         self.assertTrue(text.endswith("heaps to 8"), text)
-
-    def test_html_of_an_infinite_one_has_its_family_and_its_heaps(self) -> None:
-        of = infinite("0.354_heaps_5")
-        text = "".join(Balanced(of._repr_html_() or "").texts)
-        self.assertTrue(text.startswith("Q5(0.354) is infinite: heaps 1 to 512 elements, 1 track"), text)
-        self.assertIn("base 2 4 5up 5 5 5 5 5 5down 2 2track 1 from (0,0)", text)
-        self.assertIn("j=2PPNNNNNNj=3PPPNNNNN", text)
-        self.assertIn("heapelement(down, up)11(0,0)22(3,0)", text)
-        of.close()
-        self.assertIsNone(of._repr_html_())
 
     def test_html_of_a_whole_game_has_its_heaps(self) -> None:
         text = "".join(Balanced(whole("0.26")._repr_html_() or "").texts)

@@ -18,10 +18,11 @@ PART_OF_0_33 = (
     b"mqc 2\ncode 0.33\norder 2\nstart 2\nperiod 0\nphi 1\nportion 1\nwords 0:1\nrow 0 1\nrow 1 0\napart 0\nend\n"
 )
 
-# The text of the whole game 0.26
+# The text of the whole game 0.26, and a presentation of 0.404: no part to fewer heaps has an infinite quotient
 WHOLE_0_26 = (samples / "0.26.mqw").read_bytes()
+PRESENTED_0_404 = (samples / "0.404_heaps_12.mqp").read_bytes()
 
-# The limit, the rounds, the aim, the heaps and the order; for an infinite quotient the limit, the heaps and the order
+# The limit, the rounds, the aim, the heaps and the order; for an infinite quotient the heaps alone
 Bounds = tuple[int, ...]
 
 
@@ -110,27 +111,32 @@ WHYS = [
 ]
 
 
-# Each part of 0.33 has a finite quotient
-UNTIL_8 = b"gave up: each part to heap 8 seems to have a finite quotient\n"
+# Each part of 0.33 has a finite quotient, and each of 0.404 to heap 11
+UNTIL_8, UNTIL_11 = (b"gave up: each part to heap %d seems to have a finite quotient\n" % it for it in (8, 11))
 INFINITE = [
-    Told("a whole game", b"0.26", (LIMIT, 64, 4096), 400, 0, 159, WHOLE_0_26),
-    Told("a whole game by the least bounds", b"0.26", (1, 1, 2), 400, 0, 159, WHOLE_0_26),
-    Told("by the largest", b"0.26", (1000000, 1024, 4096), 400, 0, 159, WHOLE_0_26),
-    Told("just room", b"0.26", (LIMIT, 64, 4096), 159, 0, 159, WHOLE_0_26),
-    Told("room for a byte less", b"0.26", (LIMIT, 64, 4096), 158, 14, 159, b""),
-    Told("finite quotients", b"0.33", (LIMIT, 8, 4096), 400, 13, 61, UNTIL_8),
-    Told("just room for the line", b"0.33", (LIMIT, 8, 4096), 61, 13, 61, UNTIL_8),
-    Told("no room for the line", b"0.33", (LIMIT, 8, 4096), 60, 14, 61, b""),
-    Told("no limit", b"0.26", (0, 64, 4096), 400, 15, UNCOUNTED, b""),
-    Told("a larger limit", b"0.26", (1000001, 64, 4096), 400, 15, UNCOUNTED, b""),
-    Told("no heap", b"0.26", (LIMIT, 0, 4096), 400, 15, UNCOUNTED, b""),
-    Told("more heaps", b"0.26", (LIMIT, 1025, 4096), 400, 15, UNCOUNTED, b""),
-    Told("one element", b"0.26", (LIMIT, 64, 1), 400, 15, UNCOUNTED, b""),
-    Told("more elements", b"0.26", (LIMIT, 64, 4097), 400, 15, UNCOUNTED, b""),
-    Told("a code that ends in 0", b"0.260", (LIMIT, 64, 4096), 400, 12, UNCOUNTED, b""),
-    Told("no byte", b"", (LIMIT, 64, 4096), 400, 12, UNCOUNTED, b""),
-    Told("a byte that is no text", b"\xff", (LIMIT, 64, 4096), 400, 12, UNCOUNTED, b""),
-    Told("no heap for no code", b"0.260", (LIMIT, 0, 4096), 400, 15, UNCOUNTED, b""),
+    Told("a whole game", b"0.26", (64,), 400, 0, 159, WHOLE_0_26),
+    Told("a whole game by one heap", b"0.26", (1,), 400, 0, 159, WHOLE_0_26),
+    Told("by the most heaps", b"0.26", (1024,), 400, 0, 159, WHOLE_0_26),
+    Told("just room", b"0.26", (64,), 159, 0, 159, WHOLE_0_26),
+    Told("room for a byte less", b"0.26", (64,), 158, 14, 159, b""),
+    Told("finite quotients", b"0.33", (8,), 400, 13, 61, UNTIL_8),
+    Told("just room for the line", b"0.33", (8,), 61, 13, 61, UNTIL_8),
+    Told("no room for the line", b"0.33", (8,), 60, 14, 61, b""),
+    Told("no heap", b"0.26", (0,), 400, 15, UNCOUNTED, b""),
+    Told("more heaps", b"0.26", (1025,), 400, 15, UNCOUNTED, b""),
+    Told("a code that ends in 0", b"0.260", (64,), 400, 12, UNCOUNTED, b""),
+    Told("no byte", b"", (64,), 400, 12, UNCOUNTED, b""),
+    Told("a byte that is no text", b"\xff", (64,), 400, 12, UNCOUNTED, b""),
+    Told("no heap for no code", b"0.260", (0,), 400, 15, UNCOUNTED, b""),
+]
+PARTS = [
+    Told("a part", b"0.404", (64,), 400, 0, len(PRESENTED_0_404), PRESENTED_0_404),
+    Told("by just as many heaps", b"0.404", (12,), 400, 0, len(PRESENTED_0_404), PRESENTED_0_404),
+    Told("by a heap less", b"0.404", (11,), 400, 13, 62, UNTIL_11),
+    Told("finite quotients", b"0.33", (8,), 60, 14, 61, b""),
+    Told("no heap", b"0.404", (0,), 400, 15, UNCOUNTED, b""),
+    Told("more heaps", b"0.404", (1025,), 400, 15, UNCOUNTED, b""),
+    Told("a code that ends in 0", b"0.4040", (64,), 400, 12, UNCOUNTED, b""),
 ]
 
 
@@ -181,9 +187,5 @@ class Searches(unittest.TestCase):
         self.look_at("misere_solve_infinite", INFINITE)
 
     def test_parts_with_an_infinite_quotient_are_found(self) -> None:
-        """What is found has the last heap of which no text has fewer, and is accepted."""
-        status, length, told = searched("misere_solve_infinite", b"0.404", (LIMIT, 64, 4096), 4000)
-        self.assertEqual((status, told[:24]), (0, b"mqi 1\ncode 0.404\nheaps 12"[:24]))
-        self.assertEqual(called("misere_check_infinite", told[:length], LIMIT), 0)
-        status, _, told = searched("misere_solve_infinite", b"0.404", (LIMIT, 11, 4096), 4000)
-        self.assertEqual((status, told[:34]), (13, b"gave up: each part to heap 11 seem"))
+        for call in ("misere_solve_infinite", "misere_solve_presented"):
+            self.look_at(call, PARTS)

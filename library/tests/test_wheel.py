@@ -30,11 +30,11 @@ class Wheel(unittest.TestCase):
         self.assertEqual(files["misere/libmisere.so.1"], (top / "library/libmisere.so.1").read_bytes())
         for file in (top / "library/misere").glob("*.*"):
             self.assertEqual(files[f"misere/{file.name}"], file.read_bytes())
-        self.assertEqual(sum(it.endswith(".mqi") for it in files), len(list((top / "atlas/infinite").glob("*.mqi"))))
+        self.assertEqual(sum(it.endswith(".mqp") for it in files), len(list((top / "atlas/infinite").glob("*.mqp"))))
         whole = [*(top / "atlas/whole").glob("*.mqw"), *(top / "certificates").glob("*.mqw")]
         self.assertEqual({it for it in files if it.endswith(".mqw")}, {f"misere/atlas/whole/{it.name}" for it in whole})
         self.assertEqual(files["misere/atlas/whole/0.26.mqw"], (top / "certificates/0.26.mqw").read_bytes())
-        for name in ("octal.json", "hexadecimal.json", "parts.json", "infinite/0.354_heaps_5.mqi"):
+        for name in ("octal.json", "hexadecimal.json", "parts.json", "infinite/0.354_heaps_5.mqp"):
             self.assertEqual(files[f"misere/atlas/{name}"], (top / "atlas" / name).read_bytes())
         licences = {place.rpartition("/")[2]: text for place, text in files.items() if "LICENSE-" in place}
         self.assertEqual(licences, {name: (top / name).read_bytes() for name in ("LICENSE-MIT", "LICENSE-APACHE")})

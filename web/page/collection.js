@@ -2,7 +2,6 @@
 // (Each is checked when it is used.)
 
 import {fieldsOf, nameOf} from "./certificate.js";
-import {infiniteName, infiniteOf, isInfinite} from "./infinite/fields.js";
 import {heldText} from "./infinite/held.js";
 import {isPresented, presentedName, presentedOf} from "./presented/fields.js";
 import {isWhole, wholeName, wholeOf} from "./whole/fields.js";
@@ -14,13 +13,13 @@ export class Collection {
   /** @type {Map<string, string>} */
   #own = new Map();
 
-  /** @type {Promise<import("./infinite/held.js").Told> | null} */
+  /** @type {Promise<import("./infinite/held.js").Held[]> | null} */
   #infinite = null;
   #unpack;
 
   /**
    * @param {import("./atlas.js").Atlas} atlas
-   * @param {() => Promise<import("./infinite/held.js").Told>} unpack the certificates of infinite quotients
+   * @param {() => Promise<import("./infinite/held.js").Held[]>} unpack the presentations of infinite quotients
    */
   constructor(atlas, unpack) {
     this.atlas = atlas;
@@ -28,9 +27,9 @@ export class Collection {
   }
 
   /**
-   * The certificate of a name: a code; a code and the last heap of a part, such as `0.75/8`; one of an infinite
-   * quotient, such as `0.07/34-33` for the heaps 1 to 34 without 33; that of a whole game, such as `0.26/whole`; or a
-   * presentation that was checked here, such as `0.404/presented-12`.
+   * The certificate of a name: a code; a code and the last heap of a part, such as `0.75/8`; the presentation of an
+   * infinite quotient, such as `0.07/34-33` for the heaps 1 to 34 without 33; that of a whole game, such as
+   * `0.26/whole`; or another presentation that was checked here, such as `0.75/presented-22`.
    * @param {string} name
    * @returns {Promise<string | null>}
    */
@@ -63,8 +62,7 @@ export class Collection {
 /** @param {string} text */
 function nameOfText(text) {
   if (isWhole(text)) return wholeName(wholeOf(text).code);
-  if (isPresented(text)) return presentedName(presentedOf(text));
-  return isInfinite(text) ? infiniteName(infiniteOf(text)) : nameOf(fieldsOf(text));
+  return isPresented(text) ? presentedName(presentedOf(text)) : nameOf(fieldsOf(text));
 }
 
 /** @param {string} name */

@@ -46,7 +46,7 @@ function followed(rows, [smaller, last], g) {
 /**
  * The words of all keys but that of the identity, each with the first heap that has the element.
  * @param {Products} products
- * @param {(number | null)[]} phi the elements of the heaps, or null of one that is left out
+ * @param {number[]} phi the elements of the heaps
  */
 export function wordsOfKeys({rows, keys}, phi) {
   const firsts = rows.slice(1).map((_, at) => [0, at + 1]);

@@ -1,6 +1,5 @@
-// What is asked of a certificate: by the calls for finite quotients, or by those for infinite ones and presentations.
+// What is asked of a certificate: by the calls for finite quotients, or by those for whole games and presentations.
 
-import {isInfinite} from "./infinite/fields.js";
 import {isPresented} from "./presented/fields.js";
 import {isWhole} from "./whole/fields.js";
 
@@ -19,11 +18,11 @@ export class Oracle {
   constructor(prover, bytes) {
     this.#prover = prover;
     this.#bytes = bytes;
-    this.#isInfinite = isInfinite(bytes) || isWhole(bytes) || isPresented(bytes);
+    this.#isInfinite = isWhole(bytes) || isPresented(bytes);
   }
 
   /**
-   * Whether the module can be asked. (One may lack the calls for infinite quotients.)
+   * Whether the module can be asked. (One may lack the calls for whole games and presentations.)
    * @returns {Promise<boolean>}
    */
   async isAble() {

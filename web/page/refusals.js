@@ -12,13 +12,13 @@ import {faultOfText} from "./text_faults.js";
 /** @type {Record<number, string>} */
 const REASONS = {
   1: "the bytes spell no certificate",
-  2: "the table is no commutative monoid with identity 0",
+  2: "the table is no commutative monoid with identity 0; or the relations leave some word two normal forms",
   3: "a key has no smaller element, or another product than its element",
   4: "the keys do not rise, or a product has a smaller key",
   5: "a smaller period serves, or the period serves from an earlier start",
   6: "a separating element is not the least one",
   7: "the rule of the code’s game fails at this position",
-  8: `more than the limit of ${LIMIT} different transition pairs, or of what a check with tracks takes`,
+  8: `more than the limit of ${LIMIT} different transition pairs; or a presentation is larger than the check takes`,
   9: "memory was refused, so there is no verdict",
   10: "a heap is not of 1 to 10^18",
   12: "the text is no code",
@@ -27,9 +27,8 @@ const REASONS = {
   16: "the quotient is not described within the bounds",
   23: "the certificate does not speak of all these heaps",
   31: "an option of a heap has a heap of which the certificate does not speak",
-  32: "an element is P at a place where no position with it is",
   33: "the rule was not seen to hold, and no position was found at which it fails; nothing is proved",
-  34: "the claim is right, but its three positions do not show that the quotient is infinite",
+  34: "the quotient is finite",
 };
 /** The refusal of a text, and the one with a position. */
 const [TEXT, OUTCOME] = [1, 7];

@@ -25,15 +25,6 @@ export const TERMS = {
   "No finite quotient":
       "There are infinitely many positions that are pairwise distinguishable: beside some third position one of two " +
       "is P and the other N. So they are infinitely many classes, for which no finite monoid has room.",
-  "Heaps":
-      "The certificate speaks of the positions of these heaps alone. No move from one of them leads to another heap.",
-  "Monoid": "Each heap has an element of it, and a position the product. Besides, a position has two counts a track.",
-  "Tracks":
-      "On each track a heap has two weights, its down and its up. The sums of both, of which large ones are folded " +
-      "together, say with the element whether a position is P.",
-  "Base": "The position beside which an up and a down cancel.",
-  "Up": "Heaps that are added: base, base + up, base + 2·up, .. are pairwise distinguishable.",
-  "Down": "Heaps that undo an up beside the base, as far as outcomes go.",
   "Parity": "A position is odd if it has an odd number of odd heaps.",
   "Weight": "A number of each heap. A position has the sum of these of its heaps.",
   "Lead": "By how much a heap can rule: it rules a position if the other heaps together weigh less than its lead.",

@@ -9,6 +9,9 @@ const LOOKED_AT = 4096;
 const LINE_ENDS = "The lines end with CR and LF, as Windows writes them. A certificate’s lines end with LF alone: " +
     "tr -d '\\r' makes one of it.";
 
+const WITH_TRACKS = "This is a certificate with tracks, as misere made them up to 0.6: misere solve CODE --infinite " +
+    "finds a presentation.";
+
 /** The first bytes of files that are packed. (Each byte is a letter here.) */
 const PACKED = /^(\x1f\x8b|\xfd7zXZ|BZh|PK\x03\x04|\x28\xb5\x2f\xfd)/;
 
@@ -18,6 +21,7 @@ const KINDS = [
   [PACKED, "It is packed: unpack it first."],
   [/^(\xff\xfe|\xfe\xff)/, "The text has two bytes a letter (UTF-16). A certificate is plain ASCII."],
   [/^\xef\xbb\xbf/, "The text begins with a byte order mark, as some editors write it. A certificate has none."],
+  [/^mqi /, WITH_TRACKS],
   [/^table /, "This is a quotient by its table: misere certify FILE makes a certificate of it."],
   [/^\s*\{[^]*"entries"/, "This is a catalogue: misere catalogue FILE checks all of its certificates."],
   [/^\s*[{[]/, "This is JSON, and a certificate is a text of lines. It may be what misere prints with --json."],

@@ -4,14 +4,12 @@ import {MOST_ELEMENTS, MOST_PART} from "../calls.js";
 
 import {isCode} from "./codes.js";
 
-/** The most heaps that the line `phi` has, and the largest number of a track. */
-const [MOST_ENTRIES, LARGEST_COUNT] = [4096, 1000];
+/** The most heaps that the line `phi` has. */
+const MOST_ENTRIES = 4096;
 /** The most heaps of which a text of a whole game lists the triples, and the largest rise, weight and lead. */
 const [MOST_LABELS, LARGEST_WEIGHT] = [1024, 60000];
 /** The most letters and heaps of a presentation, its most relations and words, and its largest exponent. */
 const [MOST_LETTERS, MOST_WORDS, MOST_ITEMS, LARGEST_POWER] = [26, 16384, 60000, 1000];
-/** How many numbers a track has before its weights. */
-const NUMBERS_OF_TRACK = 6;
 
 /**
  * @typedef {Record<string, number>} Numbers those that the lines before say, by the names of these
@@ -57,16 +55,6 @@ function isWithin(word, least, most) {
 function isKey(word, order, heaps) {
   const [element, heap, ...more] = word.split(":");
   return more.length === 0 && isWithin(element, 0, order - 1) && isWithin(heap ?? "", 1, heaps);
-}
-
-/**
- * Whether a word is a weight: a heap, its down and its up.
- * @param {string} word
- * @param {number} heaps
- */
-function isWeight(word, heaps) {
-  const [heap, ...counts] = word.split(":");
-  return isWithin(heap, 1, heaps) && counts.length === 2 && counts.every((it) => isWithin(it, 0, LARGEST_COUNT));
 }
 
 /**
@@ -122,25 +110,6 @@ const FINITE = {
   apart: ({order}) => ({count: (order * (order - 1)) / 2, below: order}),
 };
 
-/** @type {Format["lines"]} */
-const INFINITE = {
-  ...SHARED,
-  mqi: () => ({count: 1, least: 1, below: 2}),
-  heaps: () => ({count: 1, least: 1, below: MOST_ENTRIES + 1}),
-  order: () => ({count: 1, least: 1, below: MOST_ELEMENTS + 1}),
-  phi: ({order, heaps}) => ({count: heaps, isRight: (word) => word === "-" || isWithin(word, 0, order - 1)}),
-  track: ({heaps}) => ({
-    atLeast: NUMBERS_OF_TRACK,
-    isRight: (word, at) => (at < NUMBERS_OF_TRACK ? isWithin(word, 0, LARGEST_COUNT) : isWeight(word, heaps))
-  }),
-  words: ({order, heaps}) => ({count: order - 1, isRight: (word) => isKey(word, order, heaps)}),
-  region: ({order}) =>
-      ({count: 2, isRight: (word, at) => (at ? /^[0-9a-f]+$/.test(word) : isWithin(word, 0, order - 1))}),
-  base: ({heaps}) => ({atLeast: 0, least: 1, below: heaps + 1}),
-  up: ({heaps}) => ({atLeast: 0, least: 1, below: heaps + 1}),
-  down: ({heaps}) => ({atLeast: 0, least: 1, below: heaps + 1}),
-};
-
 /** @param {number} most */
 const labels = (most) => (/** @type {Numbers} */ {start, period}) => ({count: start + period - 1, below: most + 1});
 
@@ -180,19 +149,10 @@ function once(names) {
 const ROWS = ["row", 0, Infinity];
 const HEAD = once("mqc code order start period phi portion words");
 
-/** @type {Record<"whole" | "third" | "infinite" | "game" | "presented", Format>} */
+/** @type {Record<"whole" | "third" | "game" | "presented", Format>} */
 const FORMATS = {
   whole: {steps: [...HEAD, ROWS, ...once("apart end")], foreign: /[^a-z0-9 .:]/, isShort: false, lines: FINITE},
   third: {steps: [...HEAD, ROWS, ...once("end")], foreign: /[^a-z0-9 .:]/, isShort: true, lines: FINITE},
-  infinite: {
-    steps: [
-      ...once("mqi code heaps order phi"), ["track", 0, 8], ...once("words"), ROWS, ["region", 0, Infinity],
-      ...once("base up down end")
-    ],
-    foreign: /[^a-z0-9 .:-]/,
-    isShort: true,
-    lines: INFINITE
-  },
   game: {
     steps: once("mqw code start period rise odd weights leads end"),
     foreign: /[^a-z0-9 .]/,
@@ -212,7 +172,6 @@ const FORMATS = {
  * @param {string} text
  */
 export function formatNamed(text) {
-  if (text.startsWith("mqi")) return FORMATS.infinite;
   if (text.startsWith("mqw")) return FORMATS.game;
   if (text.startsWith("mqp")) return FORMATS.presented;
   return text.startsWith("mqc 3\n") ? FORMATS.third : FORMATS.whole;

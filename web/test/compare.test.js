@@ -231,7 +231,7 @@ test("refusals", async (t) => {
 });
 
 test("the version, and nothing of many", () => {
-  assert.equal(misere.version(), 1);
+  assert.equal(misere.version(), 2);
   assert.deepEqual([...misere.outcomes(kayles, []), ...misere.values(kayles, []), ...misere.answers(kayles, [])], []);
 });
 

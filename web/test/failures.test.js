@@ -28,7 +28,7 @@ test("a full stack: the call fails, or tells what is told with ample stack", asy
       const tried = STACKS.map((size) => {
         const misere = newMisere(withStack(bytesOfModule, size)), now = told(() => call(misere));
         assert.ok(now === "failed" || now === ample, `stack ${size}: ${now}`);
-        assert.equal(misere.version(), 1, `after it, stack ${size}`);
+        assert.equal(misere.version(), 2, `after it, stack ${size}`);
         return now === ample;
       });
       assert.ok(!tried[0] && tried.at(-1));

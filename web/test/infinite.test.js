@@ -1,21 +1,24 @@
-/** Certificates of infinite quotients: what the module tells, beside what the program prints. */
+/** Whole games and presentations: what the module tells, beside what the program prints. */
 import assert from "node:assert/strict";
 import test from "node:test";
 
 import {Failed, Misere} from "../calls.js";
-import {memberOf} from "../page/infinite/family.js";
-import {infiniteOf, infiniteVerdict} from "../page/infinite/fields.js";
+import {presentedOf, presentedVerdict} from "../page/presented/fields.js";
 import {isSaidP, isWhole, tripleOf, wholeOf, wholeVerdict} from "../page/whole/fields.js";
 
 import {bytesOfModule, newMisere} from "./module.js";
-import {fileOf, infinite, numbersFrom, printed, refusedInfinite, sample, told, wholeTexts} from "./setup.js";
+import {fileOf, infinite, numbersFrom, printed, refusedPresented, sample, told, wholeTexts} from "./setup.js";
 import {linesOfRefusal, verdictPrinted} from "./verdicts.js";
 
 const misere = newMisere();
-const skip = misere.knowsInfinite() ? false : "the module has no calls for infinite quotients";
-/** Larger certificates are only checked. */
-const MOST_ASKED = 30000;
+const skip = misere.knowsInfinite() ? false : "the module has no calls for whole games and presentations";
+/** The checks of longer texts take seconds to minutes. */
+const LONGEST = 800;
 const POSITIONS_OF_EACH = 200;
+
+const asked = infinite.filter(({bytes}) => bytes.length <= LONGEST);
+/** @type {[string, number][]} Samples of presentations, each with its order. */
+const FINITE = [["0.75_heaps_22.mqp", 8], ["0.77.mqp", 40]];
 
 /** @param {Uint8Array} bytes */
 function verdictOf(bytes) {
@@ -25,20 +28,28 @@ function verdictOf(bytes) {
     return linesOfRefusal(stop);
   }
   const text = new TextDecoder().decode(bytes);
-  return [isWhole(bytes) ? wholeVerdict(wholeOf(text)) : infiniteVerdict(infiniteOf(text))];
+  return [isWhole(bytes) ? wholeVerdict(wholeOf(text)) : presentedVerdict(presentedOf(text), null)];
 }
 
 test("verdict, number and position", {skip}, async (t) => {
-  for (const {name, bytes} of [...infinite, ...refusedInfinite, {name: "a finite one", bytes: sample("0.33")}])
+  for (const {name, bytes} of [...asked, ...refusedPresented, {name: "a finite one", bytes: sample("0.33")}])
     await t.test(name, () => assert.deepEqual(verdictOf(bytes), verdictPrinted("infinite", bytes)));
 });
 
+test("presentations of finite quotients", {skip}, () => {
+  for (const [name, order] of FINITE) {
+    misere.checkInfinite(sample(name));
+    const said = presentedVerdict(presentedOf(sample(name).toString()), order);
+    assert.deepEqual([said], verdictPrinted("verify", sample(name)));
+  }
+});
+
 /**
- * Some positions of the heaps of which a certificate speaks, and of one more.
- * @param {import("../page/infinite/fields.js").Infinite} certificate
+ * Some positions of the heaps of which a presentation speaks.
+ * @param {import("../page/presented/fields.js").Presented} presented
  * @param {(below: number) => number} random
  */
-function positionsOf({last, leftOut}, random) {
+function positionsOf({heaps: last, leftOut}, random) {
   const heaps = Array.from({length: last}, (_, at) => at + 1).filter((heap) => !leftOut.includes(heap));
   const any = () => heaps[random(heaps.length)];
   return Array.from({length: POSITIONS_OF_EACH}, () => Array.from({length: random(14)}, any));
@@ -52,11 +63,11 @@ function lineOf(answer) {
 test("positions: outcome and winning move", {skip}, (t) => {
   const random = numbersFrom(34);
   let count = 0;
-  for (const {name, bytes} of infinite.filter(({bytes}) => bytes.length < MOST_ASKED)) {
-    const certificate = infiniteOf(bytes.toString()), positions = positionsOf(certificate, random);
+  for (const {name, bytes} of asked) {
+    const positions = positionsOf(presentedOf(bytes.toString()), random);
     const outcomes = [...misere.infiniteOutcomes(bytes, positions)];
     const lines = misere.infiniteAnswers(bytes, positions).map(lineOf);
-    const file = fileOf(bytes, "x.mqi");
+    const file = fileOf(bytes, "x.mqp");
     positions.slice(0, 4).forEach(
         (heaps, at) => assert.equal(printed("infinite", file, heaps.join(" ") || "0").trim(), lines[at], name));
     outcomes.forEach((outcome, at) => assert.equal(outcome, Number(lines[at] !== "lost"), `${name} ${positions[at]}`));
@@ -97,7 +108,7 @@ test("whole games: outcomes as the three numbers of each heap say, and moves to 
 });
 
 test("the family of 0.354 is the one that docs/INFINITE.md tells", {skip}, () => {
-  const bytes = sample("0.354_heaps_5.mqi");
+  const bytes = sample("0.354_heaps_5.mqp");
   const twos = Array.from({length: 5}, (_, at) => at + 1), fives = Array.from({length: 24}, (_, at) => at + 1);
   const cells = twos.flatMap((j) => fives.map((i) => ({j, i})));
   const positions = cells.map(({j, i}) => [4, ...Array(j).fill(2), ...Array(i).fill(5)]);
@@ -108,9 +119,9 @@ test("the family of 0.354 is the one that docs/INFINITE.md tells", {skip}, () =>
 /** @type {[("description" | "latex" | "json"), string[]][]} */
 const FORMS = [["description", []], ["latex", ["--latex"]], ["json", ["--json"]]];
 
-test("what a certificate says is told as the program shows it", {skip}, () => {
-  for (const name of ["0.354_heaps_5.mqi", "4.76_heaps_6.mqi", "0.07_heaps_34_without_33.mqi"]) {
-    const bytes = infinite.find((it) => it.name === name)?.bytes ?? sample(name), file = fileOf(bytes, name);
+test("what a presentation says is told as the program shows it", {skip}, () => {
+  for (const name of ["0.354_heaps_5.mqp", "0.404_heaps_12.mqp", "0.31011_heaps_5.mqp"]) {
+    const bytes = sample(name), file = fileOf(bytes, name);
     for (const [output, words] of FORMS)
       assert.equal(misere.describeInfinite(bytes, {output}), printed("infinite", file, "--show", ...words), name);
   }
@@ -118,12 +129,12 @@ test("what a certificate says is told as the program shows it", {skip}, () => {
 
 /**
  * A code, how far is looked, and the words of the same for the program.
- * @type {[string, {heaps?: number, order?: number}, string[]][]}
+ * @type {[string, {heaps?: number}, string[]][]}
  */
 const SEARCHES = [
   ["0.26", {}, []],
   ["0.404", {}, []],
-  ["0.404", {order: 24}, ["--order", "24"]],
+  ["0.354", {heaps: 5}, ["--heaps", "5"]],
   ["0.404", {heaps: 11}, ["--heaps", "11"]],
   ["0.33", {heaps: 8}, ["--heaps", "8"]],
 ];
@@ -141,18 +152,10 @@ test("searches: the bytes that are found, or why none are", {skip}, () => {
   assert.equal(told(() => misere.solveInfinite("0.26", {heaps: 0})), "refused 15");
 });
 
-test("base and what is far up have other outcomes", {skip}, () => {
-  for (const {name, bytes} of infinite.filter(({bytes}) => bytes.length < MOST_ASKED)) {
-    const certificate = infiniteOf(bytes.toString());
-    const [base, ...far] = misere.infiniteOutcomes(bytes, [0, 40, 41, 80].map((j) => memberOf(certificate, j, 0)));
-    assert.ok(far.some((it) => it !== base), name);
-  }
-});
-
-const small = sample("0.354_heaps_5.mqi");
+const small = sample("0.404_heaps_12.mqp");
 
 test("refusals", {skip}, () => {
-  assert.equal(told(() => misere.infiniteOutcomes(small, [[5], [6]])), "refused 23");
+  assert.equal(told(() => misere.infiniteOutcomes(small, [[5], [13]])), "refused 23");
   assert.equal(told(() => misere.infiniteAnswers(small, [[0]])), "refused 10");
   assert.equal(told(() => misere.infiniteAnswers(sample("0.33"), [[1]])), "refused 1");
   assert.equal(told(() => misere.check(small)), "refused 1");

@@ -14,7 +14,7 @@ export const newMisere = (bytes = bytesOfModule) => new Misere(new WebAssembly.M
 
 /** @param {Misere} misere */
 function asksInfinite(misere) {
-  const outcomes = misere.infiniteOutcomes(sample("0.354_heaps_5.mqi"), [[2, 4, 5], [5]]);
+  const outcomes = misere.infiniteOutcomes(sample("0.404_heaps_12.mqp"), [[3, 5, 9], [5]]);
   misere.close();
   return `${outcomes}`;
 }

@@ -19,16 +19,16 @@ import {describedOf} from "../page/description.js";
 import {AIMS, soughtOf, soughtWord} from "../page/find/plan.js";
 import {thirdOf} from "../page/game/compare.js";
 import {otherWins} from "../page/game/wins.js";
-import {memberOf, writtenOf} from "../page/infinite/family.js";
-import {infiniteName, infiniteOf, infiniteVerdict, isInfinite, speaksOf} from "../page/infinite/fields.js";
+import {heapsTold, partOf} from "../page/infinite/part.js";
 import {readingOf} from "../page/play/reading.js";
 import {outcomeByPlays} from "../page/plays.js";
 import {heapsOfText, listOf} from "../page/positions.js";
+import {presentedName, presentedOf, reachOf} from "../page/presented/fields.js";
 import {Failure} from "../page/prover.js";
 import {reasonOf, told, toldOfCertificate} from "../page/refusals.js";
 import {TERMS} from "../page/terms.js";
 
-import {atlas, fileOf, infinite, parts, printed, refusedInfinite, root, sample, samples, wholeTexts} from "./setup.js";
+import {atlas, fileOf, infinite, parts, printed, refusedPresented, root, sample, samples, wholeTexts} from "./setup.js";
 
 const folder = process.env.MISERE_HELD ?? path.join(root, "web/out");
 const heldIn = (/** @type {string} */ name) => JSON.parse(readFileSync(path.join(folder, name), "utf8"));
@@ -274,19 +274,19 @@ test("an address of a search says what is sought", () => {
     assert.equal(soughtWord(soughtOf(word)), word);
   assert.deepEqual(soughtOf("Kayles:deep"), {code: "0.77", aim: "deep", number: 0});
   assert.deepEqual(AIMS.partial.steps(33).at(-1)?.search, {aim: "part", heaps: 33, order: 4096});
-  assert.deepEqual(AIMS.all.steps(0).at(-1)?.search, {aim: "infinite", heaps: 64, order: 4096});
+  assert.deepEqual(AIMS.all.steps(0).at(-1)?.search, {aim: "infinite", heaps: 64});
 });
 
-test("the texts of infinite quotients that the page makes again are those of the atlas", async () => {
+test("the presentations of infinite quotients that the page holds are those of the atlas", async () => {
   const page = new Collection(made, async () => heldInfinite);
   for (const {name, bytes} of infinite) {
-    const text = bytes.toString(), certificate = infiniteOf(text);
-    assert.equal(await page.find(infiniteName(certificate)), text, name);
-    const file = infiniteName(certificate).replace("/", "_heaps_").replace("-", "_without_").replaceAll("-", "_");
-    assert.equal(`${file}.mqi`, name);
-    assert.deepEqual([isInfinite(text), isInfinite(bytes)], [true, true]);
-    assert.match(writtenOf(memberOf(certificate, 2, 3)), /^[0-9·+ ]+$/);
-    assert.ok(speaksOf(certificate, memberOf(certificate, 2, 3)));
+    const text = bytes.toString(), presented = presentedOf(text), named = presentedName(presented);
+    assert.equal(await page.find(named), text, name);
+    const file = named.replace("/", "_heaps_").replace("-", "_without_").replaceAll("-", "_");
+    assert.equal(`${file}.mqp`, name);
+    const [code, part] = named.split("/"), {last, leftOut} = partOf(code, part);
+    assert.deepEqual({code, last, leftOut}, {code: presented.code, last: presented.heaps, leftOut: presented.leftOut});
+    assert.equal(heapsTold(partOf(code, part)), reachOf(presented));
   }
   assert.equal(await page.find("0.07/35"), null);
 });
@@ -302,23 +302,11 @@ test("a part of a code is found by its last heap", async () => {
   for (const name of ["0.07/25", "0.77/5", "0.123456"]) assert.equal(await page.find(name), null);
 });
 
-test("a certificate of an infinite quotient is read", () => {
-  const {text, ...said} = infiniteOf(sample("0.07_heaps_34_without_33.mqi").toString());
-  assert.deepEqual(said, {
-    code: "0.07",
-    last: 34,
-    leftOut: [33],
-    order: 664,
-    tracks: 1,
-    base: [25, 30, 34, 34, 34],
-    up: [30],
-    down: [34],
-  });
-  const it = {text, ...said};
-  assert.equal(infiniteVerdict(it), "infinite 0.07 heaps 34 without 33");
-  assert.equal(writtenOf(memberOf(it, 2, 1)), "25 + 3·30 + 4·34");
-  assert.deepEqual([[34], [33], [35], []].map((heaps) => speaksOf(it, heaps)), [true, false, false, true]);
-  assert.deepEqual(readingOf(text).usual, [25, 30, 30, 34, 34, 34, 34]);
+test("what a play needs of a presentation is read", () => {
+  const text = sample("0.07_heaps_34_without_33.mqp").toString(), {reach, usual, speaksOf} = readingOf(text);
+  assert.equal(reach, "the heaps 1 to 34 without 33");
+  assert.deepEqual([[34], [33], [35], []].map(speaksOf), [true, false, false, true]);
+  assert.deepEqual([usual.length, speaksOf(usual)], [3, true]);
   assert.equal(readingOf(sample("0.75_heaps_8").toString()).reach, "heaps up to 8");
 });
 
@@ -358,7 +346,7 @@ function failureOf(command, {name, bytes}) {
 
 test("the true outcome of a position at which a certificate fails is the program's", () => {
   const failures = [
-    ...samples.flatMap((it) => failureOf("check", it)), ...refusedInfinite.flatMap((it) => failureOf("infinite", it))
+    ...samples.flatMap((it) => failureOf("check", it)), ...refusedPresented.flatMap((it) => failureOf("infinite", it))
   ];
   assert.ok(failures.length > 5);
   for (const {code, heaps, outcome} of failures)

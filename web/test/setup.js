@@ -45,7 +45,7 @@ export const samples = ["certificates", "certificates/refused"].flatMap((it) => 
 
 /** The bytes of a sample. */
 export const sample = (/** @type {string} */ name) =>
-    readFileSync(path.join(root, "certificates", /\.mq[ipw]$/.test(name) ? name : `${name}.mqc`));
+    readFileSync(path.join(root, "certificates", /\.mq[pw]$/.test(name) ? name : `${name}.mqc`));
 
 /**
  * All entries of a catalogue of the atlas.
@@ -64,13 +64,13 @@ function entriesOf(name) {
 export const atlas = ["octal", "hexadecimal"].flatMap(entriesOf);
 export const parts = entriesOf("parts");
 
-/** The certificates of infinite quotients: of the atlas, and the samples that are refused. */
-const infiniteIn = (/** @type {string} */ place) =>
+/** Presentations: the infinite ones of the atlas, and the samples that are refused. */
+const presentedIn = (/** @type {string} */ place) =>
     readdirSync(path.join(root, place))
-        .filter((name) => name.endsWith(".mqi"))
+        .filter((name) => name.endsWith(".mqp"))
         .map((name) => ({name, bytes: readFileSync(path.join(root, place, name))}));
-export const infinite = infiniteIn("atlas/infinite");
-export const refusedInfinite = infiniteIn("certificates/refused");
+export const infinite = presentedIn("atlas/infinite");
+export const refusedPresented = presentedIn("certificates/refused");
 
 /** The texts of whole games, each with its code. */
 export const wholeTexts = ["atlas/whole", "certificates"].flatMap((place) => {

@@ -12,7 +12,7 @@ import {lineTold} from "../page/refusals.js";
 import {faultOfText} from "../page/text_faults.js";
 import {kindOfText} from "../page/text_kinds.js";
 
-import {atlas, faultsAre, infinite, parts, refusedInfinite, sample, samples} from "./setup.js";
+import {atlas, faultsAre, infinite, parts, refusedPresented, sample, samples} from "./setup.js";
 
 const encoder = new TextEncoder();
 const good = sample("0.33").toString(), lines = good.split("\n");
@@ -28,7 +28,8 @@ const KINDS = [
   ["open 1 0.33.mqc 100\n", /misere desk FILE/],
   ["0.77\n", /Find looks/],
   ["mqc 1\r\ncode 0.33\r\n", /CR and LF/],
-  ["mqi 1\r\ncode 0.354\r\n", /CR and LF/],
+  ["mqp 1\r\ncode 0.354\r\n", /CR and LF/],
+  ["mqi 1\ncode 0.354\n", /with tracks/],
 ];
 
 test("a text of another kind is told what it is", () => {
@@ -88,34 +89,8 @@ test("a fault is found in what spells no certificate, and in nothing else", () =
   for (const {name, bytes} of samples.filter((it) => !refused.includes(it)))
     assert.equal(faultOfText(decoder.decode(bytes)), "", name);
   for (const {code, bytes} of [...atlas, ...parts]) assert.equal(faultOfText(decoder.decode(bytes)), "", code);
-  for (const {name, bytes} of [...infinite, ...refusedInfinite])
+  for (const {name, bytes} of [...infinite, ...refusedPresented])
     assert.equal(faultOfText(decoder.decode(bytes)), "", name);
-});
-
-/** @type {[string, string, string][]} What is changed in the certificate of 0.354, and the fault. */
-const WITH_TRACKS = [
-  ["mqi 1", "mqi 2", "line 1: 2, which isn't 1 to 1"],
-  ["heaps 5", "heaps 5 6", "line 3: words after its name: 2, not 1"],
-  ["phi 1 2", "phi 1", "line 5: words after its name: 4, not 5"],
-  ["phi 1 2", "phi 12 2", "line 5: “12”, which it can't have"],
-  ["2:3:0", "6:3:0", "line 6: “6:3:0”, which it can't have"],
-  ["2:3:0", "2:1001:0", "line 6: “2:1001:0”, which it can't have"],
-  ["words 0:1", "words", "line 7: words after its name: 10, not 11"],
-  ["row 1 ", "row 12 ", "line 8: 12, which isn't 0 to 11"],
-  ["region 1 8000", "region 1 8g00", "line 12: “8g00”, which it can't have"],
-  ["region 1 8000", "regions 1 8000", "line 12: its first word isn't row or region or base"],
-  ["base 2 4 5\n", "", "line 21: its first word isn't region or base"],
-  ["up 5", "up 05", "line 22: 05, which begins with 0"],
-  ["down 2 2", "down 2 6", "line 23: 6, which isn't 1 to 5"],
-  ["end\n", "end", "the last line has no end"],
-];
-
-test("so it is of certificates with tracks", () => {
-  const text = sample("0.354_heaps_5.mqi").toString();
-  faultsAre(text, WITH_TRACKS);
-  const without = (/** @type {number} */ gone) => text.split("\n").filter((_, at) => at !== gone).join("\n");
-  const rows = [...text.matchAll(/^row /gm)].length;
-  assert.equal(faultOfText(without(7)), `line 11: rows before it: ${rows - 1}, not ${rows}`);
 });
 
 test("behind the verdict stands the line, or which command may name it", () => {

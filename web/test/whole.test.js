@@ -30,7 +30,7 @@ test("the texts that the page makes again are those of the atlas", async () => {
     assert.ok(made.games.has(code), code);
   }
   for (const none of ["0.77/whole", "0.26/whole2", "whole"]) assert.equal(made.text(none), null, none);
-  assert.deepEqual([isWhole(text), isWhole("mqi 1\n"), isWhole(new TextEncoder().encode(text))], [true, false, true]);
+  assert.deepEqual([isWhole(text), isWhole("mqp 1\n"), isWhole(new TextEncoder().encode(text))], [true, false, true]);
 });
 
 /**

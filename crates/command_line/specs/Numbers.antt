@@ -7,7 +7,7 @@ use Rattle.clap.specs.Words.{Row, Text, first_of}
 use Rattle.misere_theory.specs.declared.TheConstants.{LARGEST_ORDER, LARGEST_FIRST_ORDER, LARGEST_SECOND_ORDER, LARGEST_PART}
 use Rattle.command_line.specs.declared.numbers.Bounds.{Bounds}
 use Rattle.command_line.specs.declared.numbers.Quantity.{Quantity}
-use Rattle.command_line.specs.declared.numbers.Quantity.TheVariants.{Limit, Rounds, Heaps, Order, Part, DeepOrder, Last, PartOrder, Furthest, SeriesLast, InfiniteOrder}
+use Rattle.command_line.specs.declared.numbers.Quantity.TheVariants.{Limit, Rounds, Heaps, Order, Part, DeepOrder, Last, PartOrder, Furthest, SeriesLast}
 use Rattle.requests.specs.declared.ranges.TheConstants.{DEFAULT_HEAPS, DEFAULT_LIMIT, DEFAULT_ORDER, DEFAULT_ROUNDS, DEFAULT_SERIES, FEWEST_HEAPS, LARGEST_LIMIT, LEAST_ORDER, MOST_HEAPS, MOST_ROUNDS}
 
 -- the range of each number, and what it is where none is given
@@ -22,7 +22,6 @@ bounds_of Last = record { least = 1; most = LARGEST_PART; default = LARGEST_PART
 bounds_of PartOrder = record { least = LEAST_ORDER; most = LARGEST_ORDER; default = LARGEST_SECOND_ORDER }
 bounds_of Furthest = record { least = LEAST_ORDER; most = LARGEST_ORDER; default = LARGEST_SECOND_ORDER }
 bounds_of SeriesLast = record { least = 1; most = LARGEST_PART; default = DEFAULT_SERIES }
-bounds_of InfiniteOrder = record { least = LEAST_ORDER; most = LARGEST_ORDER; default = LARGEST_ORDER }
 
 -- the number lies in its range
 abbrev pub IsWithin : Quantity → ℕ → Type 0
@@ -40,7 +39,6 @@ name_of Last = codes "partial"
 name_of PartOrder = codes "order"
 name_of Furthest = codes "furthest"
 name_of SeriesLast = codes "heaps"
-name_of InfiniteOrder = codes "order"
 
 -- the number that a text spells in decimal without leading zeros, where it lies between the bounds
 unfoldable pub number_within : Bounds → Text → Option ℕ

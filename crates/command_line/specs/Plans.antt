@@ -1,8 +1,7 @@
 -- Plans whose numbers lie in their ranges. This project's own.
 use Rattle.std.specs.Prelude.{⊤, ℕ}
 use Rattle.command_line.specs.Numbers.{IsWithin}
-use Rattle.command_line.specs.declared.numbers.Quantity.{Quantity}
-use Rattle.command_line.specs.declared.numbers.Quantity.TheVariants.{Limit, Rounds, Heaps, Order, Part, DeepOrder, Last, PartOrder, Furthest, SeriesLast, InfiniteOrder}
+use Rattle.command_line.specs.declared.numbers.Quantity.TheVariants.{Limit, Rounds, Heaps, Order, Part, DeepOrder, Last, PartOrder, Furthest, SeriesLast}
 use Rattle.requests.specs.declared.plans.Aim.{Aim}
 use Rattle.requests.specs.declared.plans.Aim.TheVariants as aim
 use Rattle.requests.specs.declared.plans.CatalogueTask.{CatalogueTask}
@@ -36,10 +35,9 @@ abbrev pub AreWithin : SolveBounds → Type 0
 AreWithin bounds = IsWithin Limit bounds.limit × IsWithin Rounds bounds.rounds
     × AimsWithin bounds.aim bounds.order
 
--- each number of a series lies in its range, or of a search for an infinite quotient, where `order`
--- is the range of the elements that are allowed
-abbrev pub ArePartsWithin : Quantity → PartsBounds → Type 0
-ArePartsWithin order bounds = IsWithin Limit bounds.limit × IsWithin order bounds.order
+-- each number of a series lies in its range
+abbrev pub ArePartsWithin : PartsBounds → Type 0
+ArePartsWithin bounds = IsWithin Limit bounds.limit × IsWithin DeepOrder bounds.order
     × IsWithin SeriesLast bounds.heaps
 
 -- each number lies in its range
@@ -49,8 +47,8 @@ HasNumbersWithin (plan.Verify file limit) = IsWithin Limit limit
 HasNumbersWithin (plan.Solve code bounds) = AreWithin bounds
 HasNumbersWithin (plan.SolveMany codes bounds) = AreWithin bounds
 HasNumbersWithin (plan.SolveLines bounds) = AreWithin bounds
-HasNumbersWithin (plan.SolveInfinite code bounds presented) = ArePartsWithin InfiniteOrder bounds
-HasNumbersWithin (plan.Series code bounds) = ArePartsWithin DeepOrder bounds
+HasNumbersWithin (plan.SolveInfinite code heaps presented) = IsWithin SeriesLast heaps
+HasNumbersWithin (plan.Series code bounds) = ArePartsWithin bounds
 HasNumbersWithin (plan.Show file limit) = IsWithin Limit limit
 HasNumbersWithin (plan.Tail file limit) = IsWithin Limit limit
 HasNumbersWithin (plan.Describe file output basis limit) = IsWithin Limit limit
@@ -66,7 +64,7 @@ HasNumbersWithin (plan.Present text) = ⊤
 HasNumbersWithin (plan.Catalogue file asked limit) =
     TaskHasNumbersWithin asked × IsWithin Limit limit
 HasNumbersWithin (plan.Desk script) = ⊤
-HasNumbersWithin (plan.Infinite file limit) = IsWithin Limit limit
-HasNumbersWithin (plan.ShowInfinite file layout limit) = IsWithin Limit limit
-HasNumbersWithin (plan.PlayInfinite file position limit) = IsWithin Limit limit
-HasNumbersWithin (plan.PlayInfiniteLines file limit) = IsWithin Limit limit
+HasNumbersWithin (plan.Infinite file) = ⊤
+HasNumbersWithin (plan.ShowInfinite file layout) = ⊤
+HasNumbersWithin (plan.PlayInfinite file position) = ⊤
+HasNumbersWithin (plan.PlayInfiniteLines file) = ⊤

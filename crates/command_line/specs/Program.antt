@@ -113,11 +113,11 @@ catalogue = command (codes "catalogue")
 abbrev pub desk : App
 desk = command (codes "desk") (needed (codes "script") ∷ [])
 
--- infinite FILE [POSITION] [--show] [--latex] [--json] [--limit N]
+-- infinite FILE [POSITION] [--show] [--latex] [--json]
 abbrev pub infinite : App
 infinite = command (codes "infinite")
     (needed (codes "file") ∷ optional (codes "position") ∷ flag (codes "show")
-    ∷ flag (codes "latex") ∷ flag (codes "json") ∷ option (codes "limit") ∷ [])
+    ∷ flag (codes "latex") ∷ flag (codes "json") ∷ [])
 
 -- tail FILE [--limit N]
 abbrev pub tail : App

@@ -15,7 +15,7 @@ use Rattle.command_line.specs.declared.faults.Exclusion.TheVariants as exclusion
 use Rattle.command_line.specs.declared.wanted.ExplainedWord.{ExplainedWord}
 use Rattle.command_line.specs.declared.wanted.ExplainedWord.TheVariants as wanted
 use Rattle.command_line.specs.declared.numbers.Quantity.{Quantity}
-use Rattle.command_line.specs.declared.numbers.Quantity.TheVariants.{Limit, Rounds, Heaps, Order, Part, DeepOrder, Last, PartOrder, Furthest, SeriesLast, InfiniteOrder}
+use Rattle.command_line.specs.declared.numbers.Quantity.TheVariants.{Limit, Rounds, Heaps, Order, Part, DeepOrder, Last, PartOrder, Furthest, SeriesLast}
 use Rattle.requests.specs.Requests.{CatalogueRequest, Request}
 use Rattle.requests.specs.Requests.CatalogueRequest.{Print, Table, New, Add, NewWith, Get, Salvage, Migrate}
 use Rattle.requests.specs.Requests.Request.{Check, Solve, SolveMany, SolveLines, Show, Describe, Play, PlayLines, Present, Catalogue, Desk}
@@ -236,30 +236,30 @@ abbrev pub asks_for_finite : List Row → Bool
 asks_for_finite rows =
     is_set (codes "deep") rows || is_set (codes "any") rows
     || is_given (codes "partial") rows || is_given (codes "furthest") rows
-    || is_given (codes "rounds") rows
+    || is_given (codes "rounds") rows || is_given (codes "order") rows
+    || is_given (codes "limit") rows
 
 -- a search for an infinite quotient is meant: --infinite says it, and --presented stands with it alone
 abbrev pub asks_for_infinite : List Row → Bool
 asks_for_infinite rows = is_set (codes "infinite") rows || is_set (codes "presented") rows
 
 -- --infinite stands with several codes, with those of standard input, or with another option than
--- --heaps, --order, --limit, --presented and --why; or --presented stands without it
+-- --heaps, --presented and --why; or --presented stands without it
 abbrev pub infinite_search_conflicts : List Row → Bool
 infinite_search_conflicts rows =
     not (is_set (codes "infinite") rows) || is_input (first_of (codes "code") rows) || has_several (all_of (codes "code") rows)
     || asks_for_finite rows
 
-abbrev pub infinite_search_with : Bool → Option Text → Option ℕ → Option ℕ → Option ℕ → Option Request
-infinite_search_with presented (Some code) (Some n) (Some largest) (Some last) =
-    Some (SolveInfinite code (record { limit = n; order = largest; heaps = last }) presented)
-infinite_search_with _ _ _ _ _ = None
+abbrev pub infinite_search_with : Bool → Option Text → Option ℕ → Option Request
+infinite_search_with presented (Some code) (Some last) = Some (SolveInfinite code last presented)
+infinite_search_with _ _ _ = None
 
--- a part with an infinite quotient is searched for
+-- an infinite quotient is searched for
 abbrev pub infinite_search_request : List Row → Option Request
 infinite_search_request rows =
     if infinite_search_conflicts rows then None
     else infinite_search_with (is_set (codes "presented") rows) (first_of (codes "code") rows)
-    (number_of Limit rows) (number_of InfiniteOrder rows) (number_of SeriesLast rows)
+    (number_of SeriesLast rows)
 
 -- the series of a code
 abbrev pub series_with : Option Text → Option ℕ → Option ℕ → Option ℕ → Option Request
@@ -433,9 +433,9 @@ abbrev pub desk_request : List Row → Option Request
 desk_request rows = option_map Desk (first_of (codes "script") rows)
 
 -- positions on standard input are played by a file's certificate of an infinite quotient
-abbrev pub infinite_lines_with : Option Text → ℕ → Option Request
-infinite_lines_with None limit = None
-infinite_lines_with (Some file) limit = Some (PlayInfiniteLines file limit)
+abbrev pub infinite_lines_with : Option Text → Option Request
+infinite_lines_with None = None
+infinite_lines_with (Some file) = Some (PlayInfiniteLines file)
 
 -- what the flags --show, --latex and --json ask for together: nothing, or that the quotient is shown
 abbrev pub layout_of : (show latex json : Bool) → Option (Option Layout)
@@ -457,22 +457,19 @@ layout_conflicts rows =
     (latex && json) || (not (is_set (codes "show") rows) && (latex || json))
 
 -- without a position the certificate is checked, or its quotient is shown
-abbrev pub infinite_with : Option Text → Option (Option Layout) → (position : Option Text) → Option ℕ
+abbrev pub infinite_with : Option Text → Option (Option Layout) → (position : Option Text)
     → Option Request
-infinite_with (Some file) (Some None) None (Some limit) =
-    Some (Infinite (named_by (Some file)) limit)
-infinite_with (Some file) (Some (Some layout)) None (Some limit) =
-    Some (ShowInfinite (named_by (Some file)) layout limit)
-infinite_with (Some file) (Some None) (Some position) (Some limit) =
-    if bytes_eq position (codes "-")
-    then infinite_lines_with (named_by (Some file)) limit
-    else Some (PlayInfinite (named_by (Some file)) position limit)
-infinite_with _ _ _ _ = None
+infinite_with (Some file) (Some None) None = Some (Infinite (named_by (Some file)))
+infinite_with (Some file) (Some (Some layout)) None =
+    Some (ShowInfinite (named_by (Some file)) layout)
+infinite_with (Some file) (Some None) (Some position) =
+    if bytes_eq position (codes "-") then infinite_lines_with (named_by (Some file))
+    else Some (PlayInfinite (named_by (Some file)) position)
+infinite_with _ _ _ = None
 
 abbrev pub infinite_request : List Row → Option Request
 infinite_request rows =
     infinite_with (first_of (codes "file") rows) (layout_in rows) (first_of (codes "position") rows)
-    (number_of Limit rows)
 
 -- --latex and --json stand as they can't, --show stands with a position, or the certificate and the
 -- positions both stand on standard input
@@ -524,7 +521,7 @@ abbrev pub infinite_search : Asking
 infinite_search = record {
   app = Program.solve;
   request = infinite_search_request;
-  numbers = λ rows. Limit ∷ InfiniteOrder ∷ SeriesLast ∷ [];
+  numbers = λ rows. SeriesLast ∷ [];
   conflicts = infinite_search_conflicts;
   exclusion = λ rows. Some exclusion.SolveInfinite;
 }
@@ -612,7 +609,7 @@ abbrev pub infinite : Asking
 infinite = record {
   app = Program.infinite;
   request = infinite_request;
-  numbers = λ rows. Limit ∷ [];
+  numbers = λ rows. [];
   conflicts = infinite_conflicts;
   exclusion = infinite_exclusion;
 }

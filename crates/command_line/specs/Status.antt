@@ -7,7 +7,7 @@ use Rattle.command_line.specs.declared.faults.UsageFault.{UsageFault}
 use Rattle.command_line.specs.declared.faults.UsageFault.TheVariants.{Memory, Help, Words, Number}
 use Rattle.command_line.specs.declared.faults.UsageFault.TheVariants.{Exclusive, Incomplete}
 use Rattle.command_line.specs.declared.numbers.Quantity.{Quantity}
-use Rattle.command_line.specs.declared.numbers.Quantity.TheVariants.{Limit, Rounds, Heaps, Order, Part, DeepOrder, Last, PartOrder, Furthest, SeriesLast, InfiniteOrder}
+use Rattle.command_line.specs.declared.numbers.Quantity.TheVariants.{Limit, Rounds, Heaps, Order, Part, DeepOrder, Last, PartOrder, Furthest, SeriesLast}
 
 -- help ends well, refused words with 2, want of memory with 3
 abbrev pub status_of : UsageFault → ℕ
@@ -29,7 +29,6 @@ range_text Last = codes "misere: the heaps are a number from 1 to 1024\n"
 range_text PartOrder = codes "misere: the order is a number from 2 to 4096\n"
 range_text Furthest = codes "misere: the order is a number from 2 to 4096\n"
 range_text SeriesLast = codes "misere: the heaps are a number from 1 to 1024\n"
-range_text InfiniteOrder = codes "misere: the order is a number from 2 to 4096\n"
 
 abbrev pub exclusion_text : Exclusion → Text
 exclusion_text exclusion.All = codes "misere: --all takes one position\n"
@@ -48,7 +47,7 @@ exclusion_text exclusion.Play =
 exclusion_text exclusion.Solve =
     codes "misere: one of --heaps, --deep, --any, --partial and --furthest, and --furthest without --order\n"
 exclusion_text exclusion.SolveInfinite =
-    codes "misere: --infinite takes one code, and goes with --heaps, --order, --limit, --presented and --why alone; --presented needs --infinite\n"
+    codes "misere: --infinite takes one code, and goes with --heaps, --presented and --why alone; --presented needs --infinite\n"
 
 -- what is told of the fault
 abbrev pub text_of : UsageFault → Text

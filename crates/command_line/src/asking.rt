@@ -284,21 +284,12 @@ fn infinite_plan<'a>(given: &ArgMatches<'a>) -> Result<Plan<'a>, UsageFault>
     ensures { Answers infinite (arguments_of given.now) result }
 {
     let file = named_by(Some(needed(given, "file")?));
-    let limit = number(given, Quantity::Limit)?;
     match (layout(given)?, value(given, "position"), file) {
-        (None, None, file) => Ok(Plan::Infinite { file, limit }),
-        (Some(layout), None, file) => Ok(Plan::ShowInfinite {
-            file,
-            layout,
-            limit,
-        }),
-        (None, Some("-"), Some(file)) => Ok(Plan::PlayInfiniteLines { file, limit }),
+        (None, None, file) => Ok(Plan::Infinite { file }),
+        (Some(layout), None, file) => Ok(Plan::ShowInfinite { file, layout }),
+        (None, Some("-"), Some(file)) => Ok(Plan::PlayInfiniteLines { file }),
         (None, Some("-"), None) => Err(UsageFault::Exclusive(Exclusion::Play)),
-        (None, Some(position), file) => Ok(Plan::PlayInfinite {
-            file,
-            position,
-            limit,
-        }),
+        (None, Some(position), file) => Ok(Plan::PlayInfinite { file, position }),
         (Some(_), Some(_), _) => Err(UsageFault::Exclusive(Exclusion::Infinite)),
     }
 }

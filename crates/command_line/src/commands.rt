@@ -130,11 +130,11 @@ need, and orders to 256 by default";
     let furthest =
         "Look for the most heaps 1 to M whose quotient has at most Q elements: 2 to 4096";
     let order = "Propose no quotient of more than Q elements: 2 to 256, by default 64, with \
---deep, --any, --partial and --infinite 2 to 4096";
+--deep, --any and --partial 2 to 4096";
     let why = "Tell why the search is given up";
-    let infinite = "Look for a part, the heaps 1 to some n, of which a certificate shows that its \
-quotient is infinite: n to M of --heaps, 1 to 1024, by default 64";
-    let presented = "With --infinite: print the presentation of its quotient";
+    let infinite = "Look for the text of the whole game, or else for a presentation of a part, the \
+heaps 1 to some n, whose quotient is infinite: n to M of --heaps, 1 to 1024, by default 64";
+    let presented = "With --infinite: look for a presentation alone";
     let made = Ok(command(alloc, "solve", about));
     let made = with_arg(made, several(alloc, "code", "CODE", code));
     let made = with_arg(made, limit(alloc));
@@ -304,9 +304,7 @@ fn infinite_command<'a>(alloc: Global) -> Result<Command<'a>, AllocError>
     let position =
         "Print a winning move in this position: the sizes of the heaps in one word; as - \
 in that of each line of standard input";
-    let show =
-        "Print the elements and counts of the heaps, where each element is P, and a family of \
-positions with its outcomes";
+    let show = "Print the quotient, as 'misere describe' does";
     let latex = "With --show: print it for LaTeX";
     let json = "With --show: print all of it as one object of JSON";
     let made = Ok(command(alloc, "infinite", about));
@@ -314,8 +312,7 @@ positions with its outcomes";
     let made = with_arg(made, optional(alloc, "position", "POSITION", position));
     let made = with_arg(made, flag(alloc, "show", show));
     let made = with_arg(made, flag(alloc, "latex", latex));
-    let made = with_arg(made, flag(alloc, "json", json));
-    with_arg(made, limit(alloc))
+    with_arg(made, flag(alloc, "json", json))
 }
 
 /// The program's name, version and purpose.

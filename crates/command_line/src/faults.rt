@@ -58,7 +58,7 @@ fn range_line(quantity: Quantity) -> &'static str
         Quantity::Rounds => "misere: the rounds are a number from 1 to 1000\n",
         Quantity::Heaps => "misere: the heaps are a number from 2 to 64\n",
         Quantity::Order => "misere: the order is a number from 2 to 256\n",
-        Quantity::DeepOrder | Quantity::PartOrder | Quantity::Furthest | Quantity::InfiniteOrder =>
+        Quantity::DeepOrder | Quantity::PartOrder | Quantity::Furthest =>
             "misere: the order is a number from 2 to 4096\n",
         Quantity::Last | Quantity::SeriesLast => "misere: the heaps are a number from 1 to 1024\n",
         Quantity::Part => "misere: the heaps are a number from 0 to 1024\n",
@@ -87,7 +87,7 @@ fn exclusion_line(exclusion: Exclusion) -> &'static str
             "misere: one of --heaps, --deep, --any, --partial and --furthest, and --furthest without --order\n"
         }
         Exclusion::SolveInfinite => {
-            "misere: --infinite takes one code, and goes with --heaps, --order, --limit, --presented and --why alone; --presented needs --infinite\n"
+            "misere: --infinite takes one code, and goes with --heaps, --presented and --why alone; --presented needs --infinite\n"
         }
     }
 }

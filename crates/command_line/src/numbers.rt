@@ -34,8 +34,6 @@ pub enum Quantity {
     Furthest,
     /// The last heap of a series, or of the parts that a search for an infinite quotient looks at.
     SeriesLast,
-    /// The most elements beside the tracks of a certificate of an infinite quotient.
-    InfiniteOrder,
 }
 
 /// The range of a number, its ends included, and what the number is where none is given.
@@ -63,7 +61,6 @@ impl Quantity {
             Quantity::Last => (1, heaps, heaps),
             Quantity::PartOrder | Quantity::Furthest => (LEAST_ORDER, order, second_order),
             Quantity::SeriesLast => (1, heaps, DEFAULT_SERIES),
-            Quantity::InfiniteOrder => (LEAST_ORDER, order, order),
         };
         Bounds {
             least,
@@ -81,8 +78,7 @@ impl Quantity {
             Quantity::Limit => "limit",
             Quantity::Rounds => "rounds",
             Quantity::Heaps | Quantity::Part | Quantity::SeriesLast => "heaps",
-            Quantity::Order | Quantity::DeepOrder | Quantity::PartOrder | Quantity::InfiniteOrder =>
-                "order",
+            Quantity::Order | Quantity::DeepOrder | Quantity::PartOrder => "order",
             Quantity::Last => "partial",
             Quantity::Furthest => "furthest",
         }

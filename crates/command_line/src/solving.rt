@@ -164,6 +164,8 @@ fn asks_for_finite(given: &ArgMatches<'_>) -> bool
         || value(given, "partial").is_some()
         || value(given, "furthest").is_some()
         || value(given, "rounds").is_some()
+        || value(given, "order").is_some()
+        || value(given, "limit").is_some()
 }
 
 /// Whether a search for an infinite quotient is meant.
@@ -191,18 +193,11 @@ fn infinite_search_plan<'a>(given: &ArgMatches<'a>) -> Result<Plan<'a>, UsageFau
         return Err(UsageFault::Exclusive(Exclusion::SolveInfinite));
     }
     let code = needed(given, "code")?;
-    let limit = number(given, Quantity::Limit)?;
-    let order = number(given, Quantity::InfiniteOrder)?;
     let heaps = number(given, Quantity::SeriesLast)?;
-    let bounds = PartsBounds {
-        limit,
-        order,
-        heaps,
-    };
     let presented = flag(given, "presented");
     Ok(Plan::SolveInfinite {
         code,
-        bounds,
+        heaps,
         presented,
     })
 }

@@ -47,7 +47,7 @@ module _ (input : Option (List ℕ)) (before after : Option (List ℕ → Option
   plainly (Solve code bounds) text succeeds h = (h, refl)
   plainly (SolveMany codes bounds) text succeeds h = (h, refl)
   plainly (SolveLines bounds) text succeeds h = (h, refl)
-  plainly (SolveInfinite code bounds presented) text succeeds h = (h, refl)
+  plainly (SolveInfinite code heaps presented) text succeeds h = (h, refl)
   plainly (Series code bounds) text succeeds h = (h, refl)
   plainly (Show file limit) text succeeds h = (h, refl)
   plainly (Tail file limit) text succeeds h = (h, refl)
@@ -62,10 +62,10 @@ module _ (input : Option (List ℕ)) (before after : Option (List ℕ → Option
   plainly (Present presentation) text succeeds h = (h, refl)
   plainly (Catalogue file task limit) text succeeds h = (h, refl)
   plainly (Desk script) text succeeds h = (h, refl)
-  plainly (Infinite file limit) text succeeds h = (h, refl)
-  plainly (ShowInfinite file layout limit) text succeeds h = (h, refl)
-  plainly (PlayInfinite file position limit) text succeeds h = (h, refl)
-  plainly (PlayInfiniteLines file limit) text succeeds h = (h, refl)
+  plainly (Infinite file) text succeeds h = (h, refl)
+  plainly (ShowInfinite file layout) text succeeds h = (h, refl)
+  plainly (PlayInfinite file position) text succeeds h = (h, refl)
+  plainly (PlayInfiniteLines file) text succeeds h = (h, refl)
 
   -- no line stands beside what is said of a request that asks for no relations
   pub silent : (request : Request) (text : List ℕ) (succeeds : Bool) (told : Option (List ℕ))
@@ -77,7 +77,7 @@ module _ (input : Option (List ℕ)) (before after : Option (List ℕ → Option
   silent (Solve code bounds) text succeeds told e h = h.1
   silent (SolveMany codes bounds) text succeeds told e h = h.1
   silent (SolveLines bounds) text succeeds told e h = h.1
-  silent (SolveInfinite code bounds presented) text succeeds told e h = h.1
+  silent (SolveInfinite code heaps presented) text succeeds told e h = h.1
   silent (Series code bounds) text succeeds told e h = h.1
   silent (Show file limit) text succeeds told e h = h.1
   silent (Tail file limit) text succeeds told e h = h.1
@@ -93,7 +93,7 @@ module _ (input : Option (List ℕ)) (before after : Option (List ℕ → Option
   silent (Present presentation) text succeeds told e h = h.1
   silent (Catalogue file task limit) text succeeds told e h = h.1
   silent (Desk script) text succeeds told e h = h.1
-  silent (Infinite file limit) text succeeds told e h = h.1
-  silent (ShowInfinite file layout limit) text succeeds told e h = h.1
-  silent (PlayInfinite file position limit) text succeeds told e h = h.1
-  silent (PlayInfiniteLines file limit) text succeeds told e h = h.1
+  silent (Infinite file) text succeeds told e h = h.1
+  silent (ShowInfinite file layout) text succeeds told e h = h.1
+  silent (PlayInfinite file position) text succeeds told e h = h.1
+  silent (PlayInfiniteLines file) text succeeds told e h = h.1

@@ -53,7 +53,7 @@ IsCause input (Solve code bounds) before after stop = IsSolveCause code stop
 IsCause input (SolveMany codes bounds) before after stop = IsMemory stop
 IsCause input (SolveLines bounds) before after stop =
     IsLinesCause (AreLinesOf input) before.input after.input stop
-IsCause input (SolveInfinite code bounds presented) before after stop = IsSolveCause code stop
+IsCause input (SolveInfinite code heaps presented) before after stop = IsSolveCause code stop
 IsCause input (Series code bounds) before after stop = IsSolveCause code stop
 IsCause input (Show file limit) before after stop =
     IsGivenCause file (given before) (given after) stop
@@ -80,13 +80,13 @@ IsCause input (Catalogue file task limit) before after stop =
     StopsTask file task (catalogue.failed before.reads before.writes)
     (catalogue.failed after.reads after.writes) stop
 IsCause input (Desk script) before after stop = ⊥
-IsCause input (Infinite file limit) before after stop =
+IsCause input (Infinite file) before after stop =
     IsGivenCause file (given before) (given after) stop
-IsCause input (ShowInfinite file layout limit) before after stop =
+IsCause input (ShowInfinite file layout) before after stop =
     IsGivenCause file (given before) (given after) stop
-IsCause input (PlayInfinite file position limit) before after stop =
+IsCause input (PlayInfinite file position) before after stop =
     IsPlayCause file position (given before) (given after) stop
-IsCause input (PlayInfiniteLines file limit) before after stop =
+IsCause input (PlayInfiniteLines file) before after stop =
     IsPlayLinesCause file (AreLinesOf input) (given before) (given after) stop
 
 -- the request reads standard input
@@ -105,10 +105,10 @@ reads_input (Some (Apart file first second limit)) = is_none file
 reads_input (Some (Compare first second limit)) = is_none first || is_none second
 reads_input (Some (Certify file limit)) = is_none file
 reads_input (Some (SolveLines bounds)) = true
-reads_input (Some (Infinite file limit)) = is_none file
-reads_input (Some (ShowInfinite file layout limit)) = is_none file
-reads_input (Some (PlayInfinite file position limit)) = is_none file
-reads_input (Some (PlayInfiniteLines file limit)) = true
+reads_input (Some (Infinite file)) = is_none file
+reads_input (Some (ShowInfinite file layout)) = is_none file
+reads_input (Some (PlayInfinite file position)) = is_none file
+reads_input (Some (PlayInfiniteLines file)) = true
 reads_input _ = false
 
 -- the request reads or writes files
@@ -128,10 +128,10 @@ takes_files (Some (Compare first second limit)) = is_some first || is_some secon
 takes_files (Some (Certify file limit)) = is_some file
 takes_files (Some (Catalogue file task limit)) = true
 takes_files (Some (Desk script)) = true
-takes_files (Some (Infinite file limit)) = is_some file
-takes_files (Some (ShowInfinite file layout limit)) = is_some file
-takes_files (Some (PlayInfinite file position limit)) = is_some file
-takes_files (Some (PlayInfiniteLines file limit)) = true
+takes_files (Some (Infinite file)) = is_some file
+takes_files (Some (ShowInfinite file layout)) = is_some file
+takes_files (Some (PlayInfinite file position)) = is_some file
+takes_files (Some (PlayInfiniteLines file)) = true
 takes_files _ = false
 
 -- the request asks for a description, or for a quotient's relations

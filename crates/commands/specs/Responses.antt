@@ -44,8 +44,8 @@ Says input before after (SolveMany codes bounds) text succeeds =
     AnswersCodes bounds codes text succeeds
 Says input before after (SolveLines bounds) text succeeds =
     SolvesLines (AreLinesOf input) bounds text succeeds
-Says input before after (SolveInfinite code bounds presented) text succeeds =
-    IsFound code bounds presented text succeeds
+Says input before after (SolveInfinite code heaps presented) text succeeds =
+    IsFound code heaps presented text succeeds
 Says input before after (Series code bounds) text succeeds = IsSeries code bounds text succeeds
 Says input before after (Show file limit) text succeeds =
     Shows (AreGiven input before file) limit text succeeds
@@ -71,13 +71,13 @@ Says input before after (Present presentation) text succeeds = Presents presenta
 Says input before after (Catalogue file task limit) text succeeds =
     KeepsCatalogue limit before after file task text succeeds
 Says input before after (Desk script) text succeeds = ⊥
-Says input before after (Infinite file limit) text succeeds =
+Says input before after (Infinite file) text succeeds =
     ChecksEither (AreGiven input before file) text succeeds
-Says input before after (ShowInfinite file layout limit) text succeeds =
+Says input before after (ShowInfinite file layout) text succeeds =
     ShowsInfinite (AreGiven input before file) layout text succeeds
-Says input before after (PlayInfinite file position limit) text succeeds =
+Says input before after (PlayInfinite file position) text succeeds =
     PlaysInfinite (AreGiven input before file) position text succeeds
-Says input before after (PlayInfiniteLines file limit) text succeeds =
+Says input before after (PlayInfiniteLines file) text succeeds =
     PlaysInfiniteLines (AreFileOf before file) (AreLinesOf input) text succeeds
 
 -- the same, with the line that is told beside it: a description alone may have one

@@ -134,29 +134,21 @@ fn say<'a, F: Folder, S: Source>(
             limit,
         } => compare(alloc, first, second, limit, folder, input),
         Plan::Certify { file, limit } => certify(alloc, file, limit, folder, input),
-        Plan::Infinite { file, limit } => infinite(alloc, file, limit, folder, input),
-        Plan::ShowInfinite {
-            file,
-            layout,
-            limit,
-        } => show_infinite(alloc, file, limit, layout, folder, input),
-        Plan::PlayInfinite {
-            file,
-            position,
-            limit,
-        } => play_infinite(alloc, file, position, limit, folder, input),
-        Plan::PlayInfiniteLines { file, limit } => {
-            play_infinite_lines(alloc, file, limit, folder, input)
+        Plan::Infinite { file } => infinite(alloc, file, folder, input),
+        Plan::ShowInfinite { file, layout } => show_infinite(alloc, file, layout, folder, input),
+        Plan::PlayInfinite { file, position } => {
+            play_infinite(alloc, file, position, folder, input)
         }
+        Plan::PlayInfiniteLines { file } => play_infinite_lines(alloc, file, folder, input),
         Plan::Present { text } => present(alloc, text),
         Plan::Solve { code, bounds } => solve(alloc, code, bounds),
         Plan::SolveMany { codes, bounds } => solve_many(alloc, &codes, bounds),
         Plan::SolveLines { bounds } => solve_lines(alloc, bounds, input),
         Plan::SolveInfinite {
             code,
-            bounds,
+            heaps,
             presented,
-        } => solve_infinite(alloc, code, bounds, presented),
+        } => solve_infinite(alloc, code, heaps, presented),
         Plan::Series { code, bounds } => series(alloc, code, bounds),
         Plan::Catalogue { file, task, limit } => act(alloc, folder, file, task, limit),
         Plan::Describe { .. } | Plan::Desk { .. } => unreachable!(),

@@ -7,8 +7,8 @@ use Rattle.given_quotients.specs.declared.giving.Quotient.{Quotient}
 use Rattle.given_quotients.specs.declared.giving.Quotient.TheVariants.{Finite, Whole, Presented}
 use Rattle.presented_text.specs.Spelling.{SpellsPresented}
 use Rattle.presented_checker.specs.Refused.{Kept, IsRight}
-use Rattle.presentation_finder.specs.declared.finding.Unpresented.{Unpresented}
-use Rattle.presentation_finder.specs.declared.finding.Unpresented.TheVariants as search
+use Rattle.presentation_search.specs.declared.found.Unpresented.{Unpresented}
+use Rattle.presentation_search.specs.declared.found.Unpresented.TheVariants as search
 use Rattle.presented_descriptions.specs.Described.{presented_text_for}
 use Rattle.infinite_descriptions.specs.Whole.{IsWholeText}
 use Rattle.infinite_descriptions.specs.declared.describing.Output.TheVariants as infinite
@@ -91,7 +91,7 @@ TellsTable c text succeeds = (text ≡ table_text c) × (succeeds ≡ true)
 abbrev pub unpresented_line : Unpresented → List ℕ
 unpresented_line search.Limit = codes "not presented within what the check takes\n"
 unpresented_line search.Refused = codes "not presented: the check refused what was found\n"
-unpresented_line _ = codes "not presented within the work that is allowed\n"
+unpresented_line search.Work = codes "not presented within the work that is allowed\n"
 
 -- The text is that of a right presentation of the same code and of the same heaps, and so of the same quotient; or it
 -- says that none was found, and nothing is claimed.

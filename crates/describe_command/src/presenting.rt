@@ -1,13 +1,12 @@
 //! The presentation of a quotient, as a certificate of its own.
 ghost use Rattle.std.specs.Prelude.{◌≡◌, IfOk, None, length, option_map};
-ghost use Rattle.presented_text.specs.Spelling.{SpellsPresented};
-ghost use Rattle.presented_checker.specs.Refused.{IsRight};
 ghost use Rattle.describe_command.specs.Described.{TellsPresentation, unpresented_line};
 
 use allocation::Memory;
 use answers::Certified;
 use command_results::{Noted, Said};
-use presentation_finder::{FoundPresentation, Unpresented, present_certified};
+use presentation_finder::present_certified;
+use presentation_search::{FoundPresentation, Unpresented};
 use std::alloc::Global;
 
 /// Why no presentation was found, in a line.
@@ -17,8 +16,7 @@ fn unpresented_line(why: Unpresented) -> &'static str
     match why {
         Unpresented::Limit => "not presented within what the check takes\n",
         Unpresented::Refused => "not presented: the check refused what was found\n",
-        Unpresented::Tracks | Unpresented::Work =>
-            "not presented within the work that is allowed\n",
+        Unpresented::Work => "not presented within the work that is allowed\n",
     }
 }
 
@@ -32,17 +30,14 @@ fn line_bytes(alloc: Global, why: Unpresented) -> Result<Vec<u8>, Memory>
 
 /// Says the presentation that was found.
 fn told(certified: &Certified, found: FoundPresentation) -> Said
-    requires accepted { SpellsPresented found.text.items found.quotient.said × IsRight found.quotient }
     requires code { found.quotient.said.code ≡ certified.now.code }
     requires heaps { found.quotient.said.heaps ≡ length certified.now.phi }
     requires period { found.quotient.said.period ≡ certified.now.period }
     ensures { TellsPresentation certified.now result.text.items result.succeeds }
 {
     let _ = certified;
-    let FoundPresentation { text, quotient } = found;
-    drop(quotient);
     Said {
-        text,
+        text: found.into_text(),
         succeeds: true,
     }
 }

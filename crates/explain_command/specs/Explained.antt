@@ -2,8 +2,6 @@
 use Rattle.std.specs.Prelude.{◌≡◌, ◌<◌, ◌≤◌, ◌⊎◌, Bool, true, false, ℕ, List, codes, length}
 use Rattle.misere_theory.specs.Certificates.{Certificate as MqcSaid}
 use Rattle.certificate_text.specs.Spelling.{Spells}
-use Rattle.tracked_text.specs.Said.{Said as MqiSaid}
-use Rattle.tracked_text.specs.Spelling.{Spells as SpellsTracked}
 use Rattle.dominance_text.specs.Said.{DominanceSaid}
 use Rattle.dominance_text.specs.Spelling.{SpellsDominance}
 use Rattle.presented_text.specs.Said.{PresentedSaid}
@@ -12,14 +10,13 @@ use Rattle.own_tables.specs.Tables.{Own}
 use Rattle.own_tables.specs.Texts.{SpellsTable}
 use Rattle.verdict_texts.specs.declared.stream.TheConstants.{MOST_BYTES}
 use Rattle.explain_command.specs.declared.kinds.Kind.{Kind}
-use Rattle.explain_command.specs.declared.kinds.Kind.TheVariants.{Certificate, Tracked, Whole, Presented, Table}
+use Rattle.explain_command.specs.declared.kinds.Kind.TheVariants.{Certificate, Whole, Presented, Table}
 use Rattle.explain_command.specs.declared.kinds.Seen.{Seen}
 use Rattle.explain_command.specs.declared.kinds.Seen.TheVariants.{Is, Not}
 
 -- The bytes are a text of this kind.
 abbrev pub SpellsKind : Kind → List ℕ → Type 0
 SpellsKind Certificate bytes = (c : MqcSaid) × Spells bytes c
-SpellsKind Tracked bytes = (c : MqiSaid) × SpellsTracked bytes c
 SpellsKind Whole bytes = (c : DominanceSaid) × SpellsDominance bytes c
 SpellsKind Presented bytes = (c : PresentedSaid) × SpellsPresented bytes c
 SpellsKind Table bytes = (o : Own) × SpellsTable bytes o
@@ -37,7 +34,6 @@ IsSeen bytes (Not furthest) = (kind : Kind) → SpellsKind kind bytes → ⊥
 -- The line that names a kind, and the command that reads it.
 abbrev pub kind_line : Kind → List ℕ
 kind_line Certificate = codes "a certificate's text\n"
-kind_line Tracked = codes "the text of a certificate with tracks: misere infinite checks it\n"
 kind_line Whole = codes "the text of a whole game: misere infinite checks it\n"
 kind_line Presented = codes "the text of a presentation: misere verify checks it\n"
 kind_line Table = codes "the text of a table: misere certify reads it\n"

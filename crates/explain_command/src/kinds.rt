@@ -2,7 +2,7 @@
 ghost use Rattle.std.specs.Prelude.{◌≡◌, IfOk};
 ghost use Rattle.std.specs.String.{string_bytes};
 ghost use Rattle.explain_command.specs.Explained.{IsAnswerOf, IsSeen, kind_line};
-ghost use Rattle.explain_command.specs.declared.kinds.Kind.TheVariants.{Certificate, Tracked, Whole, Presented, Table};
+ghost use Rattle.explain_command.specs.declared.kinds.Kind.TheVariants.{Certificate, Whole, Presented, Table};
 
 use crate::stops::Furthest;
 use allocation::Memory;
@@ -14,8 +14,6 @@ use std::alloc::{AllocError, Global};
 pub enum Kind {
     /// A certificate, `mqc`.
     Certificate,
-    /// A certificate with tracks, `mqi`.
-    Tracked,
     /// A whole game with a ruling heap, `mqw`.
     Whole,
     /// A presentation, `mqp`.
@@ -31,7 +29,6 @@ impl Kind {
     {
         let line = match self {
             Kind::Certificate => "a certificate's text\n",
-            Kind::Tracked => "the text of a certificate with tracks: misere infinite checks it\n",
             Kind::Whole => "the text of a whole game: misere infinite checks it\n",
             Kind::Presented => "the text of a presentation: misere verify checks it\n",
             Kind::Table => "the text of a table: misere certify reads it\n",
@@ -51,16 +48,6 @@ fn is_certificate(alloc: Global, reader: &mut Reader<'_>) -> Result<bool, Memory
     ensures { IfOk result (IsAnswerOf Certificate reader.old) }
 {
     match certificate::read_from(alloc, reader) {
-        Ok(_) => Ok(true),
-        Err(TextFault::Text) => Ok(false),
-        Err(TextFault::Memory) => Err(Memory),
-    }
-}
-
-fn is_tracked(alloc: Global, reader: &mut Reader<'_>) -> Result<bool, Memory>
-    ensures { IfOk result (IsAnswerOf Tracked reader.old) }
-{
-    match tracked_certificate::read_from(alloc, reader) {
         Ok(_) => Ok(true),
         Err(TextFault::Text) => Ok(false),
         Err(TextFault::Memory) => Err(Memory),
@@ -104,7 +91,6 @@ fn is_of(alloc: Global, kind: Kind, bytes: &[u8], furthest: &mut Furthest) -> Re
     let mut reader = Reader::new(bytes);
     let is = match kind {
         Kind::Certificate => is_certificate(alloc, &mut reader)?,
-        Kind::Tracked => is_tracked(alloc, &mut reader)?,
         Kind::Whole => is_whole(alloc, &mut reader)?,
         Kind::Presented => is_presented(alloc, &mut reader)?,
         Kind::Table => is_table(alloc, &mut reader)?,
@@ -120,9 +106,6 @@ pub(crate) fn kind_of(alloc: Global, bytes: &[u8]) -> Result<Seen, Memory>
     let mut furthest = Furthest::unknown();
     if is_of(alloc, Kind::Certificate, bytes, &mut furthest)? {
         return Ok(Seen::Is(Kind::Certificate));
-    }
-    if is_of(alloc, Kind::Tracked, bytes, &mut furthest)? {
-        return Ok(Seen::Is(Kind::Tracked));
     }
     if is_of(alloc, Kind::Whole, bytes, &mut furthest)? {
         return Ok(Seen::Is(Kind::Whole));

@@ -5,6 +5,11 @@ use std::alloc::{AllocError, Global};
 /// How many bytes of a word are printed at most.
 const LONGEST_WORD: usize = 40;
 
+/// What is said of a text whose first line is `mqi 1`.
+const TRACKS: &str =
+    "line 1: a certificate with tracks, as misere made them up to 0.6; misere solve CODE --infinite \
+finds a presentation\n";
+
 /// What was wanted at a place of a text.
 #[derive(Clone, Copy, Debug, PartialEq, Eq)]
 pub struct Furthest {
@@ -17,7 +22,7 @@ impl Furthest {
     pub(crate) fn unknown() -> Furthest {
         Furthest {
             at: 0,
-            wanted: Wanted::Words("mqc, mqi, mqw, mqp or table"),
+            wanted: Wanted::Words("mqc, mqw, mqp or table"),
         }
     }
 
@@ -164,7 +169,8 @@ fn line_of(bytes: &[u8], at: usize) -> u64 {
     line
 }
 
-/// The line that says where it is, what is there, and what was wanted.
+/// The line that says where it is, what is there, and what was wanted. Of a certificate with tracks, which is no text any
+/// more, it says so.
 pub(crate) fn stop_text(
     alloc: Global,
     bytes: &[u8],
@@ -172,6 +178,9 @@ pub(crate) fn stop_text(
 ) -> Result<String, AllocError> {
     if bytes.is_empty() {
         return String::from_str(alloc, "no byte\n");
+    }
+    if bytes.starts_with(b"mqi 1\n") {
+        return String::from_str(alloc, TRACKS);
     }
     let at = furthest.at.min(bytes.len());
     let line = line_of(bytes, at);

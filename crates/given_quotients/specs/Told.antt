@@ -6,7 +6,7 @@ use Rattle.certificate_text.specs.declared.TheConstants.{LONGEST_TEXT}
 use Rattle.dominance_text.specs.Said.{DominanceSaid}
 use Rattle.dominance_text.specs.Spelling.{SpellsDominance}
 use Rattle.answers.specs.ByteVerdicts.ByteVerdict.{Outcome as Refuted}
-use Rattle.infinite_answers.specs.Answers.{Why, Text, Law, Order, Outcome, Limit, Memory, Part, Idle, Undecided, Ray}
+use Rattle.infinite_answers.specs.Answers.{Why, Text, Law, Outcome, Limit, Memory, Part, Undecided, Finite}
 use Rattle.verdict_texts.specs.Lines.{IsTextOf, no_line}
 use Rattle.whole_checker.specs.Solved.{IsSolved, IsRefutedWhole}
 use Rattle.presented_checker.specs.Refused.{IsTrueOfBytes}
@@ -20,14 +20,12 @@ whole_line code = codes "infinite " ++ code_text code ++ codes " whole\n"
 abbrev pub IsRefusalText : Why → List ℕ → Type 0
 IsRefusalText Text text = text ≡ no_line 1 (codes "Text")
 IsRefusalText Law text = text ≡ no_line 2 (codes "Law")
-IsRefusalText Order text = text ≡ no_line 4 (codes "Order")
 IsRefusalText (Outcome code X) text = IsTextOf (Refuted code X) text
 IsRefusalText Limit text = text ≡ no_line 8 (codes "Limit")
 IsRefusalText Memory text = ⊥
 IsRefusalText (Part n) text = text ≡ no_line 31 (codes "Part")
-IsRefusalText Idle text = text ≡ no_line 32 (codes "Idle")
 IsRefusalText Undecided text = text ≡ no_line 33 (codes "Undecided")
-IsRefusalText Ray text = text ≡ no_line 34 (codes "Ray")
+IsRefusalText Finite text = text ≡ no_line 34 (codes "Finite")
 
 -- The bytes are no more than a text has, and begin as those of whole games do.
 abbrev pub BeginsWhole : List ℕ → Type 0

@@ -27,15 +27,13 @@ pub fn refusal_text(alloc: Global, refusal: InfiniteRefusal) -> Result<String, M
     match refusal {
         InfiniteRefusal::Text => no_text(alloc, 1, "Text"),
         InfiniteRefusal::Law => no_text(alloc, 2, "Law"),
-        InfiniteRefusal::Order => no_text(alloc, 4, "Order"),
         InfiniteRefusal::Outcome(code, position) => {
             verdict_text(alloc, Err(&Refusal::Outcome(code, position)))
         }
         InfiniteRefusal::Limit => no_text(alloc, 8, "Limit"),
         InfiniteRefusal::Memory => Err(Memory),
         InfiniteRefusal::Part(_) => no_text(alloc, 31, "Part"),
-        InfiniteRefusal::Idle => no_text(alloc, 32, "Idle"),
         InfiniteRefusal::Undecided => no_text(alloc, 33, "Undecided"),
-        InfiniteRefusal::Ray => no_text(alloc, 34, "Ray"),
+        InfiniteRefusal::Finite => no_text(alloc, 34, "Finite"),
     }
 }

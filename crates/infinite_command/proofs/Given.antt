@@ -1,60 +1,27 @@
--- The bytes that are read of a certificate decide as all of its bytes do.
+-- The bytes that are read of a text decide as all of its bytes do.
 use Rattle.std.proofs.Common.{◌≡◌, ◌∙◌, ◌≤◌, ◌<◌, ap, codes, refl, sym, subst, ℕ, Bool, true, false, List, Option, Some, None, Result, Ok, Err, IfOk, Vec, arith, get_or, length}
 use Rattle.std.specs.Prelude.{is_some}
 use Rattle.std.proofs.lemmas.Bool.{true≢false}
 use Rattle.std.proofs.lemmas.List.{length-take, take_all}
 use native.Mathlib.Decide.{dec_lt}
-use Rattle.tracked_claims.specs.Fields.{Fields}
-use Rattle.tracked_text.specs.Said.{Said}
-use Rattle.tracked_text.specs.Spelling.{Spells}
 use Rattle.check_command.specs.Checks.{Failed, IsFrontOf, IsGivenCause}
 use Rattle.command_results.specs.declared.said.Said.{Said as Saying}
 use Rattle.command_results.specs.declared.stop.Stop.TheVariants.{Memory}
-use Rattle.infinite_answers.specs.Answers.{IsTrueOf, Why, Text, Law, Order, Outcome, Limit, Memory as Lacking, Part, Idle, Undecided, Ray}
-use Rattle.given_quotients.specs.Told.{BeginsWhole, BeginsPresented, IsRefusalText}
+use Rattle.given_quotients.specs.Told.{BeginsWhole, BeginsPresented}
 use Rattle.given_quotients.specs.Told.TellsWhole.{Solved}
 use Rattle.infinite_command.specs.Checks.{ChecksEither, FindsInfinite, JudgesInfinite, ShowsBy, found_line}
 use Rattle.infinite_command.specs.Shown.{ShowsFound, ShowsInfinite}
-use Rattle.infinite_command.specs.Told.{Tells, TellsEither, TellsEndless}
+use Rattle.infinite_command.specs.Told.{TellsEither, TellsEndless}
 use Rattle.infinite_command.specs.declared.checking.ShownText.{ShownText}
-use Rattle.infinite_command.specs.declared.checking.ShownText.TheVariants.{Tracked, Whole, Presented}
-use Rattle.infinite_descriptions.specs.Head.{infinite_line}
+use Rattle.infinite_command.specs.declared.checking.ShownText.TheVariants.{Whole, Presented}
 use Rattle.requests.specs.declared.plans.Layout.{Layout}
-use Rattle.infinite_command.specs.Told.Tells.{Yes, No}
 use Rattle.infinite_command.specs.Told.TellsEndless.{Infinite, Finite, Refused}
 use Rattle.presented_checker.specs.Refused.{Kept as Presentation}
 use Rattle.given_quotients.specs.Given.{JudgesPresented}
 use Rattle.verdict_texts.specs.Lines.{no_line}
 
--- long bytes spell nothing
-pub no_long : (bytes : List ℕ) (c : Said) → 4194304 < length bytes → Spells bytes c → ⊥
-no_long bytes c long spells = let short : length bytes ≤ 4194304 = spells.short in
-    omega (arith, long, short)
-
--- a refusal of long bytes that has a text is true of longer ones
-true_of_longer : (v bytes text : List ℕ) (why : Why) → 4194304 < length v → length v ≤ length bytes
-    → IsTrueOf v why → IsRefusalText why text → IsTrueOf bytes why
-true_of_longer v bytes text Text long more h told =
-    λ c spells. no_long bytes c (omega (arith, long, more)) spells
-true_of_longer v bytes text Law long more h told = absurd (no_long v h.0 long h.1)
-true_of_longer v bytes text Order long more h told = absurd (no_long v h.0 long h.1)
-true_of_longer v bytes text (Outcome code X) long more h told = absurd (no_long v h.0 long h.1)
-true_of_longer v bytes text Limit long more h told = absurd (no_long v h.0 long h.1)
-true_of_longer v bytes text Lacking long more h told = absurd told
-true_of_longer v bytes text (Part n) long more h told = absurd (no_long v h.0 long h.1)
-true_of_longer v bytes text Idle long more h told = absurd (no_long v h.0 long h.1)
-true_of_longer v bytes text Undecided long more h told = absurd (no_long v h.0 long h.1)
-true_of_longer v bytes text Ray long more h told = absurd (no_long v h.0 long h.1)
-
-pub tells_longer : (v bytes text : List ℕ) (accepted : Bool) → 4194304 < length v
-    → length v ≤ length bytes → Tells v text accepted → Tells bytes text accepted
-tells_longer v bytes text accepted long more (Yes c spells shown is good) =
-    absurd (no_long v c long spells)
-tells_longer v bytes text accepted long more (No why holds told bad) =
-    No why (true_of_longer v bytes text why long more holds told) told bad
-
 -- long bytes are no text of a whole game
-pub no_long_whole : (bytes : List ℕ) → 4194304 < length bytes → BeginsWhole bytes → ⊥
+no_long_whole : (bytes : List ℕ) → 4194304 < length bytes → BeginsWhole bytes → ⊥
 no_long_whole bytes long begins = let short = begins.0 in omega (arith, long, short)
 
 -- nor a presentation
@@ -62,7 +29,7 @@ no_long_presented : (bytes : List ℕ) → 4194304 < length bytes → BeginsPres
 no_long_presented bytes long begins = let short = begins.0 in omega (arith, long, short)
 
 -- no bytes begin as both
-not_both : (bytes : List ℕ) → BeginsWhole bytes → BeginsPresented bytes → ⊥
+pub not_both : (bytes : List ℕ) → BeginsWhole bytes → BeginsPresented bytes → ⊥
 not_both bytes begins other =
     let same : 119 ≡ 112 = ap (λ (b : List ℕ). get_or b 2 0) (sym begins.1.1 ∙ other.1.1) in
     absurd (omega (arith, same))
@@ -72,9 +39,7 @@ either_longer : (v bytes text : List ℕ) (accepted : Bool) → 4194304 < length
 either_longer v bytes text accepted long more told = record {
   whole = λ begins. absurd (no_long_whole bytes (omega (arith, long, more)) begins);
   presented = λ begins. absurd (no_long_presented bytes (omega (arith, long, more)) begins);
-  tracked =
-      λ _ _.
-      tells_longer v bytes text accepted long more (told.tracked (no_long_whole v long) (no_long_presented v long));
+  neither = λ _ _. told.neither (no_long_whole v long) (no_long_presented v long);
 }
 
 -- what is told of the front is told of all
@@ -96,8 +61,6 @@ tells_all Are front text accepted (bytes, are, is) told = elim (dec_lt 4194305 (
 
 judges_longer : {A : Type 0} (v bytes : List ℕ) (q : Result ShownText (Vec ℕ A)) → 4194304 < length v
     → length v ≤ length bytes → JudgesInfinite v q → JudgesInfinite bytes q
-judges_longer v bytes (Ok (Tracked k)) long more (none, unpresented, (c, spells, kept, shown)) =
-    absurd (no_long v c long spells)
 judges_longer v bytes (Ok (Presented k)) long more (begins, endless) =
     absurd (no_long_presented v long begins)
 judges_longer v bytes (Ok (Whole c)) long more (begins, spells, solved) =
@@ -122,21 +85,15 @@ finds_all Are front q (bytes, are, is) judged = elim (dec_lt 4194305 (length byt
 -- the line of what is shown is a yes
 pub tells_yes : (bytes : List ℕ) (f : ShownText) (text : List ℕ) (succeeds : Bool) → ShowsBy bytes f
     → text ≡ found_line f → succeeds ≡ true → TellsEither bytes text succeeds
-tells_yes bytes (Tracked k) text succeeds (none, unpresented, (c, spells, kept, shown)) line well = record {
-  whole = λ begins. absurd (none begins);
-  presented = λ begins. absurd (unpresented begins);
-  tracked = λ _ _.
-      Yes c spells shown (line ∙ ap (λ (f : Fields). infinite_line f.code f.heaps) kept.claim) well;
-}
 tells_yes bytes (Whole c) text succeeds (begins, spells, solved) line well = record {
   whole = λ _. Solved c spells solved line well;
   presented = λ other. absurd (not_both bytes begins other);
-  tracked = λ none _. absurd (none begins);
+  neither = λ none _. absurd (none begins);
 }
 tells_yes bytes (Presented k) text succeeds (begins, (spells, right, endless)) line well = record {
   whole = λ other. absurd (not_both bytes other begins);
   presented = λ _. Infinite k spells right endless line well;
-  tracked = λ _ none. absurd (none begins);
+  neither = λ _ none. absurd (none begins);
 }
 
 pub yes_said : {E : Type 0} (bytes : List ℕ) (f : ShownText) (r : Result Saying E) → ShowsBy bytes f
@@ -169,7 +126,7 @@ some_order None some = absurd (true≢false (sym some))
 
 pub finite_told : {A : Type 0} (bytes text : List ℕ) (r : Result Presentation (Vec ℕ A)) (k : Presentation)
     (o : Option ℕ) → JudgesPresented bytes r → r ≡ Ok k → o ≡ k.order → is_some o ≡ true
-    → text ≡ no_line 34 (codes "Ray") → TellsEndless bytes text false
+    → text ≡ no_line 34 (codes "Finite") → TellsEndless bytes text false
 finite_told {A = A} bytes text r k o judged is order some told =
     let right = subst (λ (s : Result Presentation (Vec ℕ A)). JudgesPresented bytes s) is judged in
     let q = some_order o some in

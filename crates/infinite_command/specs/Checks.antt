@@ -1,46 +1,30 @@
--- What is found by the bytes of a certificate with tracks, of a whole game, or of a presentation. This project's own.
+-- What is found by the bytes of a text of a whole game, or of a presentation. This project's own.
 use Rattle.std.specs.Prelude.{◌≡◌, ℕ, Bool, false, List, None, Result, Ok, Err, Vec}
 use Rattle.dominance_text.specs.Spelling.{SpellsDominance}
-use Rattle.tracked_text.specs.Said.{Said}
-use Rattle.tracked_text.specs.Spelling.{Spells}
 use Rattle.whole_checker.specs.Solved.{IsSolved}
-use Rattle.infinite_answers.specs.Kept.{Kept, IsKeptOf}
 use Rattle.presented_text.specs.Spelling.{SpellsPresented}
-use Rattle.presented_checker.specs.Refused.{Kept as Presentation, IsRight}
+use Rattle.presented_checker.specs.Refused.{Kept, IsRight}
 use Rattle.presented_command.specs.Told.{presented_line}
-use Rattle.infinite_answers.specs.Shown.{IsShown}
-use Rattle.infinite_descriptions.specs.Head.{infinite_line}
 use Rattle.given_quotients.specs.Told.{BeginsWhole, BeginsPresented, whole_line}
-use Rattle.infinite_command.specs.Told.{Tells, TellsEither, TellsEndless}
+use Rattle.infinite_command.specs.Told.{TellsEither, TellsEndless}
 use Rattle.infinite_command.specs.declared.checking.ShownText.{ShownText}
-use Rattle.infinite_command.specs.declared.checking.ShownText.TheVariants.{Tracked, Whole, Presented}
+use Rattle.infinite_command.specs.declared.checking.ShownText.TheVariants.{Whole, Presented}
 
 -- the text of a true answer to the bytes that are given, and whether that is a yes
 abbrev pub ChecksEither : (List ℕ → Type 0) → List ℕ → Bool → Type 0
 ChecksEither Are text accepted = (bytes : List ℕ) × Are bytes × TellsEither bytes text accepted
 
--- the bytes spell a certificate that is right, and k is what is kept of it
-abbrev pub IsShownBy : List ℕ → Kept → Type 0
-IsShownBy bytes k = (c : Said) × Spells bytes c × IsKeptOf k c × IsShown c
-
--- the bytes show an infinite quotient, or else the text is that of a true no
-abbrev pub JudgesTracked : {A : Type 0} → List ℕ → Result Kept (Vec ℕ A) → Type 0
-JudgesTracked bytes (Ok k) = IsShownBy bytes k
-JudgesTracked bytes (Err text) = Tells bytes text.items false
-
 -- the bytes spell a presentation that is right, of an infinite quotient
-abbrev pub IsEndlessBy : List ℕ → Presentation → Type 0
+abbrev pub IsEndlessBy : List ℕ → Kept → Type 0
 IsEndlessBy bytes k = SpellsPresented bytes k.said × IsRight k × (k.order ≡ None)
 
 -- the bytes present an infinite quotient, or else the text is that of a true no
-abbrev pub JudgesEndless : {A : Type 0} → List ℕ → Result Presentation (Vec ℕ A) → Type 0
+abbrev pub JudgesEndless : {A : Type 0} → List ℕ → Result Kept (Vec ℕ A) → Type 0
 JudgesEndless bytes (Ok k) = IsEndlessBy bytes k
 JudgesEndless bytes (Err text) = TellsEndless bytes text.items false
 
--- The bytes show this: a whole game that is right, or an infinite quotient by a presentation, if they begin so, and else
--- an infinite quotient by tracks.
+-- The bytes show this: a whole game that is right, or a presentation of an infinite quotient, and begin so.
 abbrev pub ShowsBy : List ℕ → ShownText → Type 0
-ShowsBy bytes (Tracked k) = (BeginsWhole bytes → ⊥) × (BeginsPresented bytes → ⊥) × IsShownBy bytes k
 ShowsBy bytes (Whole c) = BeginsWhole bytes × SpellsDominance bytes c × IsSolved c
 ShowsBy bytes (Presented k) = BeginsPresented bytes × IsEndlessBy bytes k
 
@@ -59,6 +43,5 @@ FindsInfinite Are found = (bytes : List ℕ) × Are bytes × JudgesInfinite byte
 
 -- the line of what was found
 abbrev pub found_line : ShownText → List ℕ
-found_line (Tracked k) = infinite_line k.claim.code k.claim.heaps
 found_line (Whole c) = whole_line c.code
 found_line (Presented k) = presented_line k

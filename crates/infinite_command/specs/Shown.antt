@@ -2,14 +2,13 @@
 use Rattle.std.specs.Prelude.{◌≡◌, ℕ, Bool, true, false, List, Result, Ok, Err, Vec}
 use Rattle.requests.specs.declared.plans.Layout.{Layout}
 use Rattle.requests.specs.declared.plans.Layout.TheVariants as layout
-use Rattle.infinite_descriptions.specs.Described.{IsDescription}
 use Rattle.infinite_descriptions.specs.declared.describing.Output.{Output}
 use Rattle.infinite_descriptions.specs.declared.describing.Output.TheVariants.{Plain, Latex, Json}
 use Rattle.infinite_descriptions.specs.Whole.{IsWholeText}
 use Rattle.presented_descriptions.specs.Described.{presented_text_for}
 use Rattle.infinite_command.specs.Checks.{ChecksEither, Shows}
 use Rattle.infinite_command.specs.declared.checking.ShownText.{ShownText}
-use Rattle.infinite_command.specs.declared.checking.ShownText.TheVariants.{Tracked, Whole, Presented}
+use Rattle.infinite_command.specs.declared.checking.ShownText.TheVariants.{Whole, Presented}
 
 -- for whom the text is
 abbrev pub output_for : Layout → Output
@@ -19,7 +18,6 @@ output_for layout.Json = Json
 
 -- all that a text says of what it shows
 abbrev pub ShowsAs : Layout → ShownText → List ℕ → Type 0
-ShowsAs layout (Tracked k) text = IsDescription (output_for layout) k text
 ShowsAs layout (Whole c) text = IsWholeText (output_for layout) c text
 ShowsAs layout (Presented k) text = text ≡ presented_text_for (output_for layout) k
 

@@ -1,10 +1,10 @@
-//! What is said of a certificate of an infinite quotient.
+//! What is said of a text of a whole game, or of a presentation of an infinite quotient.
 ghost use Rattle.std.specs.Prelude.{◌≡◌, codes, false, true, IfOk, IfErr, is_none, is_some, option_map};
 ghost use Rattle.std.specs.String.{string_bytes};
 ghost use Rattle.check_command.specs.Checks.{AreGiven, IsGivenCause, failed};
 ghost use Rattle.given_quotients.specs.Told.{whole_line};
 ghost use Rattle.infinite_command.specs.Told.{TellsEither};
-ghost use Rattle.infinite_command.specs.Checks.{ChecksEither, FindsInfinite, JudgesEndless, JudgesInfinite, JudgesTracked, found_line};
+ghost use Rattle.infinite_command.specs.Checks.{ChecksEither, FindsInfinite, JudgesEndless, JudgesInfinite, found_line};
 ghost use Rattle.verdict_texts.specs.Lines.{no_line};
 
 use allocation::Memory;
@@ -14,11 +14,9 @@ use folders::Folder;
 use given_quotients::{
     begins_presented, begins_whole, judged_presented, judged_whole, refusal_text,
 };
-use infinite_answers::{Infinite, InfiniteRefusal};
-use infinite_checker::check_infinite;
-use infinite_descriptions::yes_text;
+use infinite_answers::InfiniteRefusal;
 use presented_checker::PresentedQuotient;
-use presented_command::yes_text as presented_line;
+use presented_command::yes_text;
 use std::alloc::Global;
 use streams::Source;
 use whole_checker::WholeGame;
@@ -26,35 +24,25 @@ use whole_checker::WholeGame;
 /// What a text shows.
 #[derive(Drop)]
 pub enum ShownText {
-    /// An infinite quotient, by a certificate with tracks.
-    Tracked(Infinite),
     /// A whole game in which one heap may rule all others.
     Whole(WholeGame),
     /// An infinite quotient, by generators and relations.
     Presented(PresentedQuotient),
 }
 
-/// Checks the bytes of a certificate with tracks under the limit: what it shows, or else the text of a no.
-fn judged_tracked(
-    alloc: Global,
-    bytes: &[u8],
-    limit: u32,
-) -> Result<Result<Infinite, Vec<u8>>, Memory>
-    ensures { IfOk result (JudgesTracked bytes.now) }
+/// The text that bytes are neither a text of a whole game nor a presentation.
+fn no_text(alloc: Global) -> Result<Vec<u8>, Memory>
+    ensures { IfOk result (λ t. t.items ≡ no_line 1 (codes "Text")) }
 {
-    let refusal = match check_infinite(alloc, bytes, limit) {
-        Ok(shown) => return Ok(Ok(shown)),
-        Err(refusal) => refusal,
-    };
-    let text = refusal_text(alloc, refusal)?;
-    Ok(Err(text.into_bytes()))
+    let text = refusal_text(alloc, InfiniteRefusal::Text)?;
+    Ok(text.into_bytes())
 }
 
-/// The text that what is claimed is right, and shows no infinite quotient.
-fn unshown(alloc: Global) -> Result<Vec<u8>, Memory>
-    ensures { IfOk result (λ t. t.items ≡ no_line 34 (codes "Ray")) }
+/// The text that a presentation is right, and its quotient finite.
+fn finite_text(alloc: Global) -> Result<Vec<u8>, Memory>
+    ensures { IfOk result (λ t. t.items ≡ no_line 34 (codes "Finite")) }
 {
-    let text = refusal_text(alloc, InfiniteRefusal::Ray)?;
+    let text = refusal_text(alloc, InfiniteRefusal::Finite)?;
     Ok(text.into_bytes())
 }
 
@@ -65,7 +53,7 @@ fn judged_endless(alloc: Global, bytes: &[u8]) -> Result<Result<PresentedQuotien
     match judged_presented(alloc, bytes)? {
         Ok(quotient) => {
             if quotient.order().is_some() {
-                return Ok(Err(unshown(alloc)?));
+                return Ok(Err(finite_text(alloc)?));
             }
             Ok(Ok(quotient))
         }
@@ -73,9 +61,8 @@ fn judged_endless(alloc: Global, bytes: &[u8]) -> Result<Result<PresentedQuotien
     }
 }
 
-/// Checks the bytes under the limit: as a text of a whole game, or as a presentation, by their first word, or else as
-/// a certificate with tracks.
-fn judged(alloc: Global, bytes: &[u8], limit: u32) -> Result<Result<ShownText, Vec<u8>>, Memory>
+/// Checks the bytes as a text of a whole game, or as a presentation, by their first word. Others are neither.
+fn judged(alloc: Global, bytes: &[u8]) -> Result<Result<ShownText, Vec<u8>>, Memory>
     ensures { IfOk result (JudgesInfinite bytes.now) }
 {
     if begins_whole(bytes) {
@@ -90,18 +77,14 @@ fn judged(alloc: Global, bytes: &[u8], limit: u32) -> Result<Result<ShownText, V
             Err(no) => Ok(Err(no)),
         };
     }
-    match judged_tracked(alloc, bytes, limit)? {
-        Ok(shown) => Ok(Ok(ShownText::Tracked(shown))),
-        Err(no) => Ok(Err(no)),
-    }
+    Ok(Err(no_text(alloc)?))
 }
 
-/// Checks the text in the file, or on standard input where no file is named, under the limit: what it shows,
-/// or else the text of a no. Whichever of the two isn't read is left alone.
+/// Checks the text in the file, or on standard input where no file is named: what it shows, or else the
+/// text of a no. Whichever of the two isn't read is left alone.
 pub fn found<'a, F: Folder, S: Source>(
     alloc: Global,
     file: Option<&'a str>,
-    limit: u32,
     folder: &mut F,
     input: &mut S,
 ) -> Result<Result<ShownText, Vec<u8>>, Stop<'a>>
@@ -120,7 +103,7 @@ pub fn found<'a, F: Folder, S: Source>(
         → folder.new ≡ folder.old }
 {
     let bytes = given_bytes(alloc, file, folder, input)?;
-    let found = judged(alloc, &bytes, limit)?;
+    let found = judged(alloc, &bytes)?;
     Ok(found)
 }
 
@@ -139,30 +122,28 @@ fn yes(alloc: Global, found: &ShownText) -> Result<Said, Memory>
     ensures succeeds { IfOk result (λ s. s.succeeds ≡ true) }
 {
     match found {
-        ShownText::Tracked(shown) => Ok(Said::done(yes_text(alloc, shown)?)),
         ShownText::Whole(game) => Ok(Said::done(whole_line(alloc, game)?)),
-        ShownText::Presented(quotient) => Ok(Said::done(presented_line(alloc, quotient)?)),
+        ShownText::Presented(quotient) => Ok(Said::done(yes_text(alloc, quotient)?)),
     }
 }
 
-/// What is said of bytes: of a text of a whole game, or of a presentation, by its first word, or else of a certificate.
-pub fn said_of_bytes(alloc: Global, bytes: &[u8], limit: u32) -> Result<Said, Memory>
+/// What is said of bytes: as a text of a whole game, or as a presentation, by their first word.
+pub fn said_of_bytes(alloc: Global, bytes: &[u8]) -> Result<Said, Memory>
     ensures { IfOk result (λ s. TellsEither bytes.now s.text.items s.succeeds) }
 {
-    match judged(alloc, bytes, limit)? {
+    match judged(alloc, bytes)? {
         Ok(found) => yes(alloc, &found),
         Err(no) => Ok(Said::no(no)),
     }
 }
 
-/// Checks the certificate in the file, or on standard input where no file is named: the line of the
-/// infinite quotient that it shows, or the text of a no. A text of a whole game, whose first word is
-/// `mqw`, is checked as one, and so is a presentation, whose first word is `mqp`: one of a finite quotient gets the no
-/// of a claim that is right, and shows no infinite one. Whichever of the two isn't read is left alone.
+/// Checks the text in the file, or on standard input where no file is named: the line of the infinite
+/// quotient that it shows, or the text of a no. A text whose first word is `mqw` is checked as one of a
+/// whole game, and one whose first word is `mqp` as a presentation, which gets a no if its quotient is finite. Others are
+/// neither. Whichever of the two isn't read is left alone.
 pub fn infinite<'a, F: Folder, S: Source>(
     alloc: Global,
     file: Option<&'a str>,
-    limit: u32,
     folder: &mut F,
     input: &mut S,
 ) -> Result<Said, Stop<'a>>
@@ -178,7 +159,7 @@ pub fn infinite<'a, F: Folder, S: Source>(
         → folder.new ≡ folder.old }
 {
     let bytes = given_bytes(alloc, file, folder, input)?;
-    match said_of_bytes(alloc, &bytes, limit) {
+    match said_of_bytes(alloc, &bytes) {
         Ok(said) => Ok(said),
         Err(Memory) => Err(Stop::Memory),
     }

@@ -1,5 +1,5 @@
-//! `infinite`: what is said of a certificate of an infinite quotient, of a text of a whole game, or of a presentation,
-//! and the answers in positions by each.
+//! `infinite`: what is said of a text of a whole game, or of a presentation of an infinite quotient, and the answers in
+//! positions by each.
 #![tactic(auto)]
 
 mod checking;

@@ -44,14 +44,13 @@ fn lines_answers(alloc: Global, found: &ShownText, lines: &[u8]) -> Result<Said,
     Ok(Said { text, succeeds })
 }
 
-/// Answers in the position of each line of standard input by what the file shows
-/// under the limit, as [`play_infinite`](crate::play_infinite) does in one; of a line that is no
-/// position it says so. It ends well if each line has an answer. Or it says why the file shows
-/// nothing, and standard input is left alone. The certificate is checked once, and first.
+/// Answers in the position of each line of standard input by what the file shows, as
+/// [`play_infinite`](crate::play_infinite) does in one; of a line that is no position it says so. It
+/// ends well if each line has an answer. Or it says why the file shows nothing, and standard input is
+/// left alone. The text is checked once, and first.
 pub fn play_infinite_lines<'a, F: Folder, S: Source>(
     alloc: Global,
     file: &'a str,
-    limit: u32,
     folder: &mut F,
     input: &mut S,
 ) -> Result<Said, Stop<'a>>
@@ -62,7 +61,7 @@ pub fn play_infinite_lines<'a, F: Folder, S: Source>(
         (failed (S.failures input.old) (F.failed_reads folder.old))
         (failed (S.failures input.new) (F.failed_reads folder.new))) }
 {
-    match found(alloc, Some(file), limit, folder, input)? {
+    match found(alloc, Some(file), folder, input)? {
         Ok(found) => {
             let lines = input_lines(alloc, input)?;
             let said = lines_answers(alloc, &found, &lines)?;

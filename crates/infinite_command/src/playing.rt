@@ -1,40 +1,16 @@
 //! The answer in a position, out of a file.
 ghost use Rattle.std.specs.Prelude.{◌≡◌, true, false, IfOk, IfErr, IsErrOf, is_none, is_some, option_map};
 ghost use Rattle.check_command.specs.Checks.{AreGiven, failed};
-ghost use Rattle.infinite_player.specs.Plays.{SpeaksOf};
-ghost use Rattle.infinite_command.specs.Plays.{AnswersIn, PlaysFound, PlaysIn, PlaysInfinite, PlaysTracked};
+ghost use Rattle.infinite_command.specs.Plays.{PlaysFound, PlaysIn, PlaysInfinite};
 ghost use Rattle.play_command.specs.Plays.{IsPlayCause};
 
 use crate::checking::{ShownText, found};
 use command_results::{Said, Stop};
 use folders::Folder;
-use infinite_answers::Infinite;
-use infinite_player::{answer, fits};
-use play_command::{answer_text, beyond, position_of, presented_played, whole_played};
+use play_command::{position_of, presented_played, whole_played};
 use positions::Position;
 use std::alloc::{AllocError, Global};
 use streams::Source;
-
-/// The line of the answer in the position, of which the certificate speaks.
-fn answered(alloc: Global, shown: &Infinite, position: &Position) -> Result<Said, AllocError>
-    requires { SpeaksOf shown.now position.now }
-    ensures answered { IfOk result (λ s. AnswersIn shown.now position.now s.text.items) }
-    ensures succeeds { IfOk result (λ s. s.succeeds ≡ true) }
-{
-    let text = answer_text(alloc, answer(shown, position))?;
-    Ok(Said::done(text))
-}
-
-/// The line of the answer in the position, or that the certificate doesn't speak of it.
-fn tracked_played(alloc: Global, shown: &Infinite, position: &Position) -> Result<Said, AllocError>
-    ensures { IfOk result (λ s. PlaysTracked shown.now position.now s.text.items s.succeeds) }
-{
-    if fits(shown, position) {
-        answered(alloc, shown, position)
-    } else {
-        beyond(alloc)
-    }
-}
 
 /// What is said in the position by what was found.
 pub(crate) fn played(
@@ -45,7 +21,6 @@ pub(crate) fn played(
     ensures { IfOk result (λ s. PlaysIn found.now position.now s.text.items s.succeeds) }
 {
     match found {
-        ShownText::Tracked(shown) => tracked_played(alloc, shown, position),
         ShownText::Whole(game) => whole_played(alloc, game, position),
         ShownText::Presented(quotient) => presented_played(alloc, quotient, position),
     }
@@ -66,15 +41,13 @@ fn said_in(
 }
 
 /// Answers in the position by the infinite quotient that the file, or standard input where no file is
-/// named, shows under the limit: with the first winning move, that each move loses, or that there is
-/// none; or says that the certificate doesn't speak of the position, or why there is no quotient. A text
-/// of a whole game speaks of every position, and a presentation of those whose heaps have words. The position is read
-/// first.
+/// named, shows: with the first winning move, that each move loses, or that there is none; or says that
+/// the text doesn't speak of the position, or why there is no quotient. A text of a whole game speaks of
+/// every position, and a presentation of those whose heaps have words. The position is read first.
 pub fn play_infinite<'a, F: Folder, S: Source>(
     alloc: Global,
     file: Option<&'a str>,
     position: &str,
-    limit: u32,
     folder: &mut F,
     input: &mut S,
 ) -> Result<Said, Stop<'a>>
@@ -91,7 +64,7 @@ pub fn play_infinite<'a, F: Folder, S: Source>(
         → folder.new ≡ folder.old }
 {
     let position = position_of(alloc, position)?;
-    let found = found(alloc, file, limit, folder, input)?;
+    let found = found(alloc, file, folder, input)?;
     match said_in(alloc, found, &position) {
         Ok(said) => Ok(said),
         Err(_) => Err(Stop::Memory),

@@ -1,7 +1,6 @@
-//! `--show`: what an infinite quotient is, and the positions that show that it is infinite.
+//! `--show`: all that a text says of an infinite quotient.
 ghost use Rattle.std.specs.Prelude.{◌≡◌, false, IfOk, IfErr, is_none, is_some, option_map, true};
 ghost use Rattle.check_command.specs.Checks.{AreGiven, IsGivenCause, failed};
-ghost use Rattle.infinite_descriptions.specs.Described.{IsDescription};
 ghost use Rattle.infinite_descriptions.specs.Whole.{IsWholeText};
 ghost use Rattle.infinite_command.specs.Shown.{ShowsFound, ShowsInfinite, output_for};
 ghost use Rattle.presented_descriptions.specs.Described.{presented_text_for};
@@ -10,8 +9,7 @@ use crate::checking::{ShownText, found};
 use allocation::Memory;
 use command_results::{Said, Stop};
 use folders::Folder;
-use infinite_answers::Infinite;
-use infinite_descriptions::{Output, described, whole_text};
+use infinite_descriptions::{Output, whole_text};
 use presented_checker::PresentedQuotient;
 use presented_descriptions::presented_text;
 use requests::Layout;
@@ -28,18 +26,6 @@ fn output_for(layout: Layout) -> Output
         Layout::Latex => Output::Latex,
         Layout::Json => Output::Json,
     }
-}
-
-/// What is said of a quotient.
-fn quotient_said(alloc: Global, shown: &Infinite, layout: Layout) -> Result<Said, Memory>
-    ensures text { IfOk result (λ s. IsDescription (output_for layout) shown.now s.text.items) }
-    ensures succeeds { IfOk result (λ s. s.succeeds ≡ true) }
-{
-    let text = described(alloc, shown, output_for(layout))?;
-    Ok(Said {
-        text,
-        succeeds: true,
-    })
 }
 
 /// What is said of a whole game.
@@ -68,20 +54,17 @@ fn said_of(alloc: Global, found: Result<ShownText, Vec<u8>>, layout: Layout) -> 
     ensures { IfOk result (λ s. ShowsFound layout found s.text.items s.succeeds) }
 {
     match found {
-        Ok(ShownText::Tracked(shown)) => quotient_said(alloc, &shown, layout),
         Ok(ShownText::Whole(game)) => game_said(alloc, &game, layout),
         Ok(ShownText::Presented(quotient)) => presentation_said(alloc, &quotient, layout),
         Err(no) => Ok(Said::no(no)),
     }
 }
 
-/// The infinite quotient that the file, or standard input where no file is named, shows under the
-/// limit, or the whole game, or the presentation: all that its text says, in lines, for LaTeX or as JSON. Or else why it
-/// shows none.
+/// The infinite quotient that the file, or standard input where no file is named, shows: all that its
+/// text says, in lines, for LaTeX or as JSON. Or else why it shows none.
 pub fn show_infinite<'a, F: Folder, S: Source>(
     alloc: Global,
     file: Option<&'a str>,
-    limit: u32,
     layout: Layout,
     folder: &mut F,
     input: &mut S,
@@ -97,7 +80,7 @@ pub fn show_infinite<'a, F: Folder, S: Source>(
     ensures folder { is_some (option_map (λ f. f.now) file.entry) ≡ false
         → folder.new ≡ folder.old }
 {
-    let found = found(alloc, file, limit, folder, input)?;
+    let found = found(alloc, file, folder, input)?;
     match said_of(alloc, found, layout) {
         Ok(said) => Ok(said),
         Err(Memory) => Err(Stop::Memory),

@@ -1,13 +1,4 @@
-pub mod Head
 pub mod Lists
-pub mod Heaps
-pub mod Regions
-pub mod Tables
-pub mod Families
-pub mod Plain
-pub mod Latex
-pub mod Json
-pub mod Described
 pub mod WholeLines
 pub mod WholeLatex
 pub mod WholeJson

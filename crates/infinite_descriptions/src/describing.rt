@@ -1,18 +1,16 @@
-//! What a certificate of an infinite quotient says, in one of three texts.
+//! What a text of a whole game says, in one of three texts.
 ghost use Rattle.std.specs.Prelude.{◌≡◌, IfOk};
 ghost use Rattle.std.specs.String.{string_bytes};
-ghost use Rattle.counted_claims.specs.Counted.{says_p};
-ghost use Rattle.tracked_claims.specs.Reads.{claim_in};
-ghost use Rattle.infinite_descriptions.specs.Described.{IsDescription, text_of};
+ghost use Rattle.dominance_text.specs.Said.{IsInRanges};
+ghost use Rattle.infinite_descriptions.specs.Whole.{IsWholeText, whole_text_for};
 
-use crate::families::outcomes_are_said;
-use crate::json::json_text;
-use crate::latex::latex_text;
-use crate::outcomes::SIDE;
-use crate::plain::plain_text;
+use crate::whole::lines_text;
+use crate::whole_json::object_text;
+use crate::whole_latex::latex_lines;
 use allocation::Memory;
-use infinite_answers::Infinite;
+use dominance_certificate::DominanceText;
 use std::alloc::{Allocator, Global};
+use whole_checker::{WholeGame, makes_all};
 
 /// For whom the text is.
 #[derive(Clone, Copy, Debug, PartialEq, Eq)]
@@ -26,35 +24,28 @@ pub enum Output {
 }
 
 /// The text that is asked for.
-fn text_of<A: Allocator>(
+fn text_for<A: Allocator>(
     alloc: Global,
-    shown: &Infinite<A>,
+    text: &DominanceText<A>,
     output: Output,
-    side: usize,
+    all: bool,
 ) -> Result<String, Memory>
-    ensures { IfOk result (λ s. string_bytes s
-        ≡ text_of output (says_p (claim_in shown.now.claim)) shown.now side) }
+    requires { IsInRanges text.now }
+    ensures { IfOk result (λ s. string_bytes s ≡ whole_text_for output text.now all) }
 {
     match output {
-        Output::Plain => plain_text(alloc, shown, side),
-        Output::Latex => latex_text(alloc, shown, side),
-        Output::Json => json_text(alloc, shown, side),
+        Output::Plain => lines_text(alloc, text, all),
+        Output::Latex => latex_lines(alloc, text, all),
+        Output::Json => object_text(alloc, text, all),
     }
 }
 
-/// What the certificate says: its code and heaps, the elements of its heaps and what they count, its
-/// tracks, the places at which each element is P, the positions of its ray, and which of the
-/// positions base + j up + k down are P, for small j and k. The table is in the text for programs, and
-/// in that for readers if it is small.
-pub fn described<A: Allocator>(
-    alloc: Global,
-    shown: &Infinite<A>,
-    output: Output,
-) -> Result<Vec<u8>, Memory>
-    ensures { IfOk result (λ v. IsDescription output shown.now v.items) }
+/// What is said of a whole game: the monoid of triples by generators and relations, with its P-portion, and
+/// whether it is seen to be the quotient or the quotient lies in it; the triple of each heap up to the end of
+/// the first period; and with which period and rise they repeat.
+pub fn whole_text(alloc: Global, game: &WholeGame, output: Output) -> Result<String, Memory>
+    ensures { IfOk result (λ s. IsWholeText output game.now (string_bytes s)) }
 {
-    outcomes_are_said();
-    let _ = shown.claim();
-    let text = text_of(alloc, shown, output, SIDE)?;
-    Ok(text.into_bytes())
+    let all = makes_all(alloc, game)?;
+    text_for(alloc, game.text(), output, all)
 }

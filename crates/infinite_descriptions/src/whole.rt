@@ -1,23 +1,14 @@
-//! What a text of a whole game says, in one of three texts.
-ghost use Rattle.std.specs.Prelude.{◌≡◌, ◌≤◌, ◌<◌, IfOk, IsTrue, length};
+//! The text of a whole game in lines.
+ghost use Rattle.std.specs.Prelude.{◌≡◌, IfOk, length};
 ghost use Rattle.std.specs.String.{string_bytes};
-ghost use Rattle.misere_theory.specs.Games.{IsHeap};
-ghost use Rattle.misere_theory.specs.Labels.{RepresentsBy};
-ghost use Rattle.dominance.specs.Triples.{IsElement, claim_by};
-ghost use Rattle.dominance_text.specs.Labels.{label_of};
 ghost use Rattle.dominance_text.specs.Said.{IsInRanges};
-ghost use Rattle.infinite_descriptions.specs.Whole.{IsWholeText, whole_text_for};
 ghost use Rattle.infinite_descriptions.specs.WholeLines.{heap_rank_line, heap_rank_lines, monoid_text, presentation, relation_of, repeat_line, whole_text};
 
-use crate::describing::Output;
 use crate::lists::all_three;
-use crate::whole_json::object_text;
-use crate::whole_latex::latex_lines;
 use allocation::Memory;
 use dominance_certificate::DominanceText;
 use octal_code::Code;
 use std::alloc::{Allocator, Global};
-use whole_checker::{WholeGame, makes_all};
 
 /// How the quotient stands to U: it is U, or it lies in U.
 pub(crate) fn relation_of(all: bool) -> &'static str
@@ -81,7 +72,7 @@ fn repeat_line<A: Allocator>(alloc: Global, text: &DominanceText<A>) -> Result<S
 }
 
 /// All lines.
-fn lines_text<A: Allocator>(
+pub(crate) fn lines_text<A: Allocator>(
     alloc: Global,
     text: &DominanceText<A>,
     all: bool,
@@ -93,31 +84,4 @@ fn lines_text<A: Allocator>(
     let heaps = heap_rank_lines(alloc, text)?;
     let repeats = repeat_line(alloc, text)?;
     all_three(alloc, monoid.as_str(), heaps.as_str(), repeats.as_str())
-}
-
-/// The text that is asked for.
-fn text_for<A: Allocator>(
-    alloc: Global,
-    text: &DominanceText<A>,
-    output: Output,
-    all: bool,
-) -> Result<String, Memory>
-    requires { IsInRanges text.now }
-    ensures { IfOk result (λ s. string_bytes s ≡ whole_text_for output text.now all) }
-{
-    match output {
-        Output::Plain => lines_text(alloc, text, all),
-        Output::Latex => latex_lines(alloc, text, all),
-        Output::Json => object_text(alloc, text, all),
-    }
-}
-
-/// What is said of a whole game: the monoid of triples by generators and relations, with its P-portion, and
-/// whether it is seen to be the quotient or the quotient lies in it; the triple of each heap up to the end of
-/// the first period; and with which period and rise they repeat.
-pub fn whole_text(alloc: Global, game: &WholeGame, output: Output) -> Result<String, Memory>
-    ensures { IfOk result (λ s. IsWholeText output game.now (string_bytes s)) }
-{
-    let all = makes_all(alloc, game)?;
-    text_for(alloc, game.text(), output, all)
 }

@@ -1,23 +1,16 @@
 //! The search from a code alone.
-ghost use Rattle.std.specs.Prelude.{◌≡◌, ◌≤◌, IfOk};
-ghost use Rattle.tracked_text.specs.Said.{Said};
-ghost use Rattle.tracked_text.specs.Spelling.{Spells};
-ghost use Rattle.infinite_answers.specs.Shown.{IsShown};
-ghost use Rattle.infinite_answers.specs.Kept.{IsKeptOf};
-
 use crate::base::Base;
 use crate::counted::{Counting, Cycles, counted, heap_leads};
 use crate::layout::Layout;
 use crate::outcomes::View;
-use crate::running::text_by_running;
-use crate::trying::{Allowed, Tries};
+use crate::running::found_by_running;
+use crate::trying::Tries;
 use allocation::{Memory, SmallAllocator};
-use infinite_answers::{Infinite, InfiniteRefusal};
-use infinite_checker::check_infinite;
 use octal_code::Code;
+use presentation_search::FoundPresentation;
 use quotient_search::{Guesses, Halt, HeapQuotient, Work};
 use running_pairs::Generators;
-use std::alloc::{Allocator, Global};
+use std::alloc::Allocator;
 
 /// The most wrong quotients of one part that are looked at.
 const MOST_GUESSES: usize = 12;
@@ -41,13 +34,6 @@ const FEWEST_COUNTED: usize = 2;
 
 const MOST_COUNTED: usize = 5;
 
-/// A certificate with tracks that was found, and what the check of its bytes keeps of it.
-#[derive(Drop)]
-pub struct FoundInfinite<A: SmallAllocator = Global> {
-    pub text: Vec<u8, A>,
-    pub shown: Infinite<A>,
-}
-
 /// Why none was found. Nothing is claimed of the game.
 #[derive(Clone, Copy, Debug, PartialEq, Eq)]
 pub enum Unfound {
@@ -57,7 +43,7 @@ pub enum Unfound {
     Shapes { heap: usize },
     /// At this heap the search came to its bound of work or of elements.
     Work { heap: usize },
-    /// What was found was refused when it was checked again.
+    /// What was found is of another code or of other heaps than was asked.
     Refused,
 }
 
@@ -71,20 +57,19 @@ struct Part<A: Allocator> {
     later: Work,
 }
 
-/// Looks for a certificate by the heaps that are taken for ones that count.
-fn text_counting<A: SmallAllocator + Copy>(
+/// Looks for a presentation by the heaps that are taken for ones that count.
+fn by_counting<A: SmallAllocator + Copy>(
     alloc: A,
     code: &Code,
     quotient: &HeapQuotient<A>,
     generators: &Generators<A>,
     cycles: &Cycles<A>,
     counted: &[usize],
-    allowed: Allowed,
     tries: usize,
-) -> Result<Option<Vec<u8, A>>, Halt> {
+) -> Result<Option<FoundPresentation<A>>, Halt> {
     let mut work = Work::new(TRY_WORK);
     let base = Base::new(alloc, quotient, generators, counted, &mut work)?;
-    if base.count() > MOST_BASE.min(allowed.order) {
+    if base.count() > MOST_BASE {
         return Ok(None);
     }
     let layout = Layout::new(alloc, &base, generators, counted, &mut work)?;
@@ -102,37 +87,34 @@ fn text_counting<A: SmallAllocator + Copy>(
         view: &view,
         outcomes: &outcomes,
         cycles,
-        allowed,
         left: tries,
     };
     tries.try_all(&mut work)
 }
 
-/// Looks for a certificate by two heaps that run against each other.
-fn accepted_by_running<A: SmallAllocator + Copy>(
+/// Looks for a presentation by two heaps that run against each other.
+fn by_running<A: SmallAllocator + Copy>(
     alloc: A,
     code: &Code,
     quotient: &HeapQuotient<A>,
     last: usize,
-    allowed: Allowed,
     work: &mut Work,
-) -> Result<Option<Vec<u8, A>>, Halt> {
-    match text_by_running(alloc, code, quotient, last, allowed, work) {
+) -> Result<Option<FoundPresentation<A>>, Halt> {
+    match found_by_running(alloc, code, quotient, last, work) {
         Err(Halt::Memory) => Err(Halt::Memory),
-        Ok(text) => Ok(text),
+        Ok(found) => Ok(found),
         _ => Ok(None),
     }
 }
 
 impl<A: SmallAllocator + Copy> Part<A> {
-    /// Looks for a certificate by a wrong quotient.
-    fn text_by(
+    /// Looks for a presentation by a wrong quotient.
+    fn by_guess(
         &self,
         alloc: A,
         code: &Code,
         quotient: &HeapQuotient<A>,
-        allowed: Allowed,
-    ) -> Result<Option<Vec<u8, A>>, Halt> {
+    ) -> Result<Option<FoundPresentation<A>>, Halt> {
         let mut work = Work::new(TRY_WORK);
         let generators = Generators::new(alloc, quotient, &mut work)?;
         let cycles = Cycles::of_generators(alloc, quotient, &generators, &mut work)?;
@@ -143,19 +125,10 @@ impl<A: SmallAllocator + Copy> Part<A> {
             if found.len() < FEWEST_COUNTED || found.len() > MOST_COUNTED || found == last {
                 continue;
             }
-            let text = text_counting(
-                alloc,
-                code,
-                quotient,
-                &generators,
-                &cycles,
-                &found,
-                allowed,
-                tries,
-            );
-            match text {
+            let presented = by_counting(alloc, code, quotient, &generators, &cycles, &found, tries);
+            match presented {
                 Err(Halt::Memory) => return Err(Halt::Memory),
-                Ok(Some(text)) => return Ok(Some(text)),
+                Ok(Some(presented)) => return Ok(Some(presented)),
                 _ => {}
             }
             last = found;
@@ -163,78 +136,74 @@ impl<A: SmallAllocator + Copy> Part<A> {
         Ok(None)
     }
 
-    /// Looks for a certificate by two heaps that run against each other, beside the first wrong quotient and
+    /// Looks for a presentation by two heaps that run against each other, beside the first wrong quotient and
     /// beside later ones.
-    fn text_by_pairs(
+    fn by_pairs(
         &mut self,
         alloc: A,
         code: &Code,
         quotient: &HeapQuotient<A>,
-        allowed: Allowed,
-    ) -> Result<Option<Vec<u8, A>>, Halt> {
+    ) -> Result<Option<FoundPresentation<A>>, Halt> {
         if self.guesses == 0 {
             let mut work = Work::new(RUNNING_WORK);
-            return accepted_by_running(alloc, code, quotient, self.heap, allowed, &mut work);
+            return by_running(alloc, code, quotient, self.heap, &mut work);
         }
         if self.guesses >= LATER_GUESS {
-            return accepted_by_running(alloc, code, quotient, self.heap, allowed, &mut self.later);
+            return by_running(alloc, code, quotient, self.heap, &mut self.later);
         }
         Ok(None)
     }
 
-    /// Looks for a certificate by a wrong quotient of the heaps 1 to `heap`, and takes note of it.
+    /// Looks for a presentation by a wrong quotient of the heaps 1 to `heap`, and takes note of it.
     fn look(
         &mut self,
         alloc: A,
         code: &Code,
         quotient: &HeapQuotient<A>,
         heap: usize,
-        allowed: Allowed,
-    ) -> Result<Option<Vec<u8, A>>, Halt> {
+    ) -> Result<Option<FoundPresentation<A>>, Halt> {
         if self.heap != heap {
             self.heap = heap;
             self.guesses = 0;
             self.leads.clear();
         }
-        let mut text = self.text_by(alloc, code, quotient, allowed)?;
-        if text.is_none() {
-            text = self.text_by_pairs(alloc, code, quotient, allowed)?;
+        let mut presented = self.by_guess(alloc, code, quotient)?;
+        if presented.is_none() {
+            presented = self.by_pairs(alloc, code, quotient)?;
         }
         if self.guesses == 0 {
             let mut work = Work::new(TRY_WORK);
             self.leads = heap_leads(alloc, quotient, &mut work)?;
         }
         self.guesses = self.guesses.saturating_add(1);
-        Ok(text)
+        Ok(presented)
     }
 }
 
-/// The text of a certificate where a search for quotients has halted, with one heap more than the last
+/// A presentation where a search for quotients has halted, with one heap more than the last
 /// quotient has, if it is found.
 fn search_beyond<A: SmallAllocator + Copy>(
     alloc: A,
     code: &Code,
     guesses: &Guesses<'_, A>,
     heaps: usize,
-    allowed: Allowed,
-) -> Result<Result<Vec<u8, A>, Unfound>, Halt> {
+) -> Result<Result<FoundPresentation<A>, Unfound>, Halt> {
     let reached = guesses.quotient().heaps().len();
     let last = reached.saturating_add(1).min(heaps);
     let mut work = Work::new(RUNNING_WORK);
-    match accepted_by_running(alloc, code, guesses.quotient(), last, allowed, &mut work)? {
-        Some(text) => Ok(Ok(text)),
+    match by_running(alloc, code, guesses.quotient(), last, &mut work)? {
+        Some(found) => Ok(Ok(found)),
         None => Ok(Err(Unfound::Work { heap: reached })),
     }
 }
 
-/// The text of a certificate of the first part that has no finite quotient, if it is found, and else
+/// A presentation of the first part that has no finite quotient, if it is found, and else
 /// why not.
 fn search<A: SmallAllocator + Copy>(
     alloc: A,
     code: &Code,
     heaps: usize,
-    allowed: Allowed,
-) -> Result<Result<Vec<u8, A>, Unfound>, Halt> {
+) -> Result<Result<FoundPresentation<A>, Unfound>, Halt> {
     let mut part = Part {
         heap: 0,
         guesses: 0,
@@ -247,10 +216,10 @@ fn search<A: SmallAllocator + Copy>(
             Ok(Some(heap)) => heap,
             Ok(None) => return Ok(Err(Unfound::Finite { heaps })),
             Err(Halt::Memory) => return Err(Halt::Memory),
-            Err(_) => return search_beyond(alloc, code, &guesses, heaps, allowed),
+            Err(_) => return search_beyond(alloc, code, &guesses, heaps),
         };
-        if let Some(text) = part.look(alloc, code, guesses.quotient(), heap, allowed)? {
-            return Ok(Ok(text));
+        if let Some(found) = part.look(alloc, code, guesses.quotient(), heap)? {
+            return Ok(Ok(found));
         }
         if part.guesses > MOST_GUESSES {
             return Ok(Err(Unfound::Shapes { heap }));
@@ -259,55 +228,17 @@ fn search<A: SmallAllocator + Copy>(
     Ok(Err(Unfound::Refused))
 }
 
-/// The same, where only want of memory is an error.
-fn searched<A: SmallAllocator + Copy>(
+/// Looks for the first part, of the heaps 1 to some heap up to `heaps`, that has no finite quotient, and for the
+/// presentation of its quotient. What it hands out was accepted by the check. The work is bounded, and the answer depends on
+/// what is asked alone.
+pub fn find_by_claims<A: SmallAllocator + Copy>(
     alloc: A,
     code: &Code,
     heaps: usize,
-    allowed: Allowed,
-) -> Result<Result<Vec<u8, A>, Unfound>, Memory> {
-    match search(alloc, code, heaps, allowed) {
+) -> Result<Result<FoundPresentation<A>, Unfound>, Memory> {
+    match search(alloc, code, heaps) {
         Ok(found) => Ok(found),
         Err(Halt::Memory) => Err(Memory),
         Err(_) => Ok(Err(Unfound::Work { heap: heaps })),
-    }
-}
-
-/// Looks for a certificate with tracks of the first part, of the heaps 1 to some heap up to `heaps`,
-/// that has no finite quotient. What it hands out has at most `order` elements, and was accepted by the
-/// check of its bytes, where no more than `limit` pairs are kept. The work is bounded, and the answer
-/// depends on what is asked alone.
-pub fn find_infinite<A: SmallAllocator + Copy>(
-    alloc: A,
-    code: &Code,
-    heaps: usize,
-    order: u32,
-    limit: u32,
-) -> Result<Result<FoundInfinite<A>, Unfound>, Memory>
-    ensures accepted { IfOk result
-        (λ found. IfOk found
-        (λ f. (c : Said) × Spells f.text.items c × IsKeptOf f.shown c × IsShown c)) }
-    ensures code { IfOk result (λ found. IfOk found (λ f. f.shown.claim.code ≡ code.now)) }
-    ensures order { IfOk result (λ found. IfOk found (λ f. f.shown.claim.order ≤ order)) }
-{
-    let allowed = Allowed {
-        order: order as usize,
-        limit,
-    };
-    let text = match searched(alloc, code, heaps, allowed)? {
-        Ok(text) => text,
-        Err(why) => return Ok(Err(why)),
-    };
-    match check_infinite(alloc, &text, limit) {
-        Ok(shown) => {
-            let is_small = u32::from(shown.claim().order) <= order;
-            if is_small && *shown.code() == *code {
-                Ok(Ok(FoundInfinite { text, shown }))
-            } else {
-                Ok(Err(Unfound::Refused))
-            }
-        }
-        Err(InfiniteRefusal::Memory) => Err(Memory),
-        Err(_) => Ok(Err(Unfound::Refused)),
     }
 }

@@ -1,22 +1,23 @@
-//! The search for certificates of infinite misère quotients.
+//! The search for infinite misère quotients by claims: a monoid, and two heaps that run against each other.
 //!
-//! Nothing is believed of the search: what it hands out was accepted by the check of its bytes.
+//! Nothing is believed of the search. Each claim is turned into a presentation, and what is handed out was accepted by the
+//! check of its bytes.
 #![tactic(auto)]
 
 mod base;
+mod claiming;
 mod counted;
-mod drafting;
 mod elements;
 mod finding;
 mod fitting;
 mod layout;
 mod merging;
+mod obeying;
 mod outcomes;
-mod rays;
 mod refining;
 mod running;
 mod shapes;
 mod states;
 mod trying;
 
-pub use finding::{FoundInfinite, Unfound, find_infinite};
+pub use finding::{Unfound, find_by_claims};

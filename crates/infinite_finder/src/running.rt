@@ -1,12 +1,12 @@
-//! Texts by two heaps that run against each other.
-use crate::drafting::drafted;
+//! Claims by two heaps that run against each other.
+use crate::claiming::Sketch;
 use crate::elements::elements_of;
-use crate::rays::Sketch;
 use crate::shapes::Shape;
 use crate::states::States;
-use crate::trying::{Allowed, is_accepted};
+use crate::trying::judged;
 use allocation::SmallAllocator;
 use octal_code::Code;
+use presentation_search::{ClaimValues, FoundPresentation};
 use quotient_search::{Halt, HeapQuotient, Work};
 use running_pairs::{RunningPair, RunningPairs};
 use std::alloc::Allocator;
@@ -37,14 +37,13 @@ fn shape_of_pair<A: Allocator + Copy>(alloc: A, pair: &RunningPair<A>) -> Result
     Ok(shape)
 }
 
-/// The text of a pair, if it has at most so many elements and a ray is found.
-fn text_of_pair<A: Allocator + Copy>(
+/// The claim of a pair, if it isn't too large.
+fn claim_of_pair<A: Allocator + Copy>(
     alloc: A,
     code: &Code,
     pair: &RunningPair<A>,
-    order: usize,
     work: &mut Work,
-) -> Result<Option<Vec<u8, A>>, Halt> {
+) -> Result<Option<ClaimValues<A>>, Halt> {
     let states = states_of_pair(alloc, pair)?;
     let shape = shape_of_pair(alloc, pair)?;
     let mut roots: Vec<usize, A> = Vec::new(alloc);
@@ -61,30 +60,26 @@ fn text_of_pair<A: Allocator + Copy>(
         states: &states,
         elements: &elements,
     };
-    match sketch.ray(order, work)? {
-        Some(ray) => drafted(alloc, code, &sketch, ray, work).map(Some),
-        None => Ok(None),
-    }
+    sketch.claim(code, work)
 }
 
-/// The first text that the check accepts by two heaps that run against each other, as a wrong quotient
-/// shows them.
-pub fn text_by_running<A: SmallAllocator + Copy>(
+/// The first presentation by two heaps that run against each other, as a wrong quotient shows them.
+pub fn found_by_running<A: SmallAllocator + Copy>(
     alloc: A,
     code: &Code,
     quotient: &HeapQuotient<A>,
     last: usize,
-    allowed: Allowed,
     work: &mut Work,
-) -> Result<Option<Vec<u8, A>>, Halt> {
+) -> Result<Option<FoundPresentation<A>>, Halt> {
     let mut pairs = RunningPairs::new(alloc, code, quotient, last, work)?;
     for _ in 0..u64::MAX {
         let Some(pair) = pairs.go_on(work)? else {
             return Ok(None);
         };
-        if let Some(text) = text_of_pair(alloc, code, &pair, allowed.order, work)? {
-            if is_accepted(alloc, &text, allowed.limit)? {
-                return Ok(Some(text));
+        if let Some(claim) = claim_of_pair(alloc, code, &pair, work)? {
+            let found = judged(alloc, &claim)?;
+            if found.is_some() {
+                return Ok(found);
             }
         }
     }

@@ -1,18 +1,16 @@
 //! Shapes tried beside a wrong quotient.
+use crate::claiming::Sketch;
 use crate::counted::Cycles;
-use crate::drafting::drafted;
 use crate::elements::elements_of;
 use crate::fitting::fits;
 use crate::merging::merged;
 use crate::outcomes::{Outcomes, View};
-use crate::rays::Sketch;
 use crate::refining::refined;
 use crate::shapes::Shape;
 use crate::states::states_of;
 use allocation::SmallAllocator;
-use infinite_answers::InfiniteRefusal;
-use infinite_checker::check_infinite;
 use octal_code::Code;
+use presentation_search::{ClaimValues, FoundPresentation, present_claim};
 use quotient_search::{Halt, Work};
 use running_pairs::{Fold, at, places_by_size, rest, share};
 use std::alloc::Allocator;
@@ -31,13 +29,6 @@ const SIGNED: &[(usize, usize, usize)] = &[
     (4, 6, 2),
 ];
 
-/// What a certificate may have: so many elements at most, and in its check so many pairs.
-#[derive(Clone, Copy)]
-pub struct Allowed {
-    pub order: usize,
-    pub limit: u32,
-}
-
 /// Tries of shapes, so many at most.
 #[derive(Drop)]
 pub struct Tries<'a, A: Allocator> {
@@ -45,26 +36,17 @@ pub struct Tries<'a, A: Allocator> {
     pub view: &'a View<'a, A>,
     pub outcomes: &'a Outcomes<A>,
     pub cycles: &'a Cycles<A>,
-    pub allowed: Allowed,
     pub left: usize,
 }
 
-/// Whether the check accepts the bytes.
-pub fn is_accepted<A: SmallAllocator + Copy>(
+/// The presentation of a claim, if it is accepted and is that of an infinite quotient.
+pub fn judged<A: SmallAllocator + Copy>(
     alloc: A,
-    text: &[u8],
-    limit: u32,
-) -> Result<bool, Halt> {
-    match check_infinite(alloc, text, limit) {
-        Ok(shown) => {
-            drop(shown);
-            Ok(true)
-        }
-        Err(InfiniteRefusal::Memory) => Err(Halt::Memory),
-        Err(refusal) => {
-            drop(refusal);
-            Ok(false)
-        }
+    claim: &ClaimValues<A>,
+) -> Result<Option<FoundPresentation<A>>, Halt> {
+    match present_claim(alloc, claim)? {
+        Ok(found) if found.quotient().order().is_none() => Ok(Some(found)),
+        _ => Ok(None),
     }
 }
 
@@ -131,8 +113,12 @@ fn codes<A: Allocator + Copy>(alloc: A, rank: usize) -> Result<Vec<usize, A>, Ha
 }
 
 impl<A: SmallAllocator + Copy> Tries<'_, A> {
-    /// The text that the check accepts, of a shape, if there is one.
-    fn try_shape(&mut self, shape: &Shape<A>, work: &mut Work) -> Result<Option<Vec<u8, A>>, Halt> {
+    /// The presentation by a shape, if there is one.
+    fn try_shape(
+        &mut self,
+        shape: &Shape<A>,
+        work: &mut Work,
+    ) -> Result<Option<FoundPresentation<A>>, Halt> {
         if !fits(self.view, self.outcomes, shape, work)? {
             return Ok(None);
         }
@@ -141,17 +127,14 @@ impl<A: SmallAllocator + Copy> Tries<'_, A> {
         if count > MOST_STATES {
             return Ok(None);
         }
-        let Some(text) = self.text_of(shape, work)? else {
-            return Ok(None);
-        };
-        if is_accepted(self.view.alloc, &text, self.allowed.limit)? {
-            return Ok(Some(text));
+        match self.claim_of(shape, work)? {
+            Some(claim) => judged(self.view.alloc, &claim),
+            None => Ok(None),
         }
-        Ok(None)
     }
 
-    /// The text of a shape that fits, if a ray is found.
-    fn text_of(&self, shape: &Shape<A>, work: &mut Work) -> Result<Option<Vec<u8, A>>, Halt> {
+    /// The claim of a shape that fits, if it isn't too large.
+    fn claim_of(&self, shape: &Shape<A>, work: &mut Work) -> Result<Option<ClaimValues<A>>, Halt> {
         let alloc = self.view.alloc;
         let mut found = states_of(self.view, self.outcomes, shape, work)?;
         let classes = refined(alloc, &found, work)?;
@@ -166,13 +149,7 @@ impl<A: SmallAllocator + Copy> Tries<'_, A> {
             states: &found,
             elements: &elements,
         };
-        match sketch.ray(self.allowed.order, work)? {
-            Some(ray) => {
-                let text = drafted(alloc, self.code, &sketch, ray, work)?;
-                Ok(Some(text))
-            }
-            None => Ok(None),
-        }
+        sketch.claim(self.code, work)
     }
 
     /// The period of a heap that counts.
@@ -209,7 +186,7 @@ impl<A: SmallAllocator + Copy> Tries<'_, A> {
         falling: usize,
         rising: usize,
         work: &mut Work,
-    ) -> Result<Option<Vec<u8, A>>, Halt> {
+    ) -> Result<Option<FoundPresentation<A>>, Halt> {
         for corner in 1..3usize {
             let shape = self.unsigned(falling, rising, corner)?;
             let found = self.try_shape(&shape, work)?;
@@ -220,7 +197,7 @@ impl<A: SmallAllocator + Copy> Tries<'_, A> {
         Ok(None)
     }
 
-    fn try_pairs(&mut self, work: &mut Work) -> Result<Option<Vec<u8, A>>, Halt> {
+    fn try_pairs(&mut self, work: &mut Work) -> Result<Option<FoundPresentation<A>>, Halt> {
         for rising in 0..self.view.counted.len() {
             for falling in 0..rising {
                 let found = self.try_pair(falling, rising, work)?;
@@ -266,7 +243,7 @@ impl<A: SmallAllocator + Copy> Tries<'_, A> {
         codes: &[usize],
         kind: (usize, usize, usize),
         work: &mut Work,
-    ) -> Result<Option<Vec<u8, A>>, Halt> {
+    ) -> Result<Option<FoundPresentation<A>>, Halt> {
         let (lead, width, modulus) = kind;
         for code in codes.iter() {
             if self.left == 0 {
@@ -282,7 +259,7 @@ impl<A: SmallAllocator + Copy> Tries<'_, A> {
     }
 
     /// Tries all shapes.
-    pub fn try_all(&mut self, work: &mut Work) -> Result<Option<Vec<u8, A>>, Halt> {
+    pub fn try_all(&mut self, work: &mut Work) -> Result<Option<FoundPresentation<A>>, Halt> {
         let found = self.try_pairs(work)?;
         if found.is_some() {
             return Ok(found);

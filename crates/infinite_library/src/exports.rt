@@ -2,7 +2,7 @@
 ghost use Rattle.std.specs.List.Sorted.{IsNonDecreasing};
 ghost use Rattle.std.specs.Prelude.{◌≡◌, ◌≢◌, ◌≤◌, ◌<◌, ℕ, Bool, List, true, false, IsPermutation, length, take};
 ghost use Rattle.std.specs.declared.option.Option.TheVariants.{None, Some};
-ghost use Rattle.infinite_library.specs.Found.{IsPresentedOf, IsToldOf, IsUntold, parts};
+ghost use Rattle.infinite_library.specs.Found.{IsPresentedOf, IsToldOf, IsUntold};
 ghost use Rattle.infinite_queries.specs.Asked.{AreNoAnswers, AreRefused, AreShown, FailsAt, IsNoAnswer, IsNoAnswerToMany, TellsAnswer, TellsOutcome};
 ghost use Rattle.infinite_texts.specs.Described.{IsOpenedCode, IsOpenedText, IsOpenedUntold};
 ghost use Rattle.infinite_texts.specs.Valued.{IsOpenedUnvalued, IsOpenedValue};
@@ -19,14 +19,14 @@ use opened_infinite::OpenedInfinite;
 use std::alloc::Global;
 use told_answers::MisereAnswer;
 
-/// Whether the bytes are an accepted text of an infinite quotient, with tracks or of a whole game, or an accepted
-/// presentation, whose quotient may be finite: 0, or the number of the refusal.
+/// Whether the bytes are an accepted text of a whole game, whose quotient is infinite, or an accepted presentation, whose
+/// quotient may be finite: 0, or the number of the refusal.
 #[unsafe(no_mangle)]
-pub extern "C" fn misere_check_infinite(alloc: Global, bytes: &[u8], limit: u32) -> u32
+pub extern "C" fn misere_check_infinite(alloc: Global, bytes: &[u8]) -> u32
     ensures yes { result ≡ 0 → AreShown bytes.now (λ k. Unit {0}) }
     ensures no { result ≢ 0 → AreRefused bytes.now result }
 {
-    check(alloc, bytes, limit)
+    check(alloc, bytes)
 }
 
 /// Checks the bytes, and where the rule of the code's game fails at a position tells how many heaps
@@ -35,7 +35,6 @@ pub extern "C" fn misere_check_infinite(alloc: Global, bytes: &[u8], limit: u32)
 pub extern "C" fn misere_infinite_failure(
     alloc: Global,
     bytes: &[u8],
-    limit: u32,
     told: &mut [u64],
     count: &mut u64,
 ) -> u32
@@ -47,7 +46,7 @@ pub extern "C" fn misere_infinite_failure(
     ensures no_room { length told.old < count.new → told.new ≡ told.old }
     ensures stays { result ≢ 7 → told.new ≡ told.old × count.new ≡ count.old }
 {
-    failure(alloc, bytes, limit, told, count)
+    failure(alloc, bytes, told, count)
 }
 
 /// Opens the quotient that the bytes show, in place of what was opened there: 0, or the number of the refusal. The bytes
@@ -56,14 +55,13 @@ pub extern "C" fn misere_infinite_failure(
 pub extern "C" fn misere_infinite_open(
     alloc: Global,
     bytes: &[u8],
-    limit: u32,
     told: &mut OpenedInfinite,
 ) -> u32
     ensures yes { result ≡ 0 → AreShown bytes.now (λ k. told.new.handle.value ≡ Some k) }
     ensures no { result ≢ 0 → AreRefused bytes.now result }
     ensures stays { result ≢ 0 → told.new ≡ told.old }
 {
-    open(alloc, bytes, limit, told)
+    open(alloc, bytes, told)
 }
 
 /// Makes a second owner of what is opened, in place of what was opened there.
@@ -265,59 +263,48 @@ pub extern "C" fn misere_infinite_value(
     value(alloc, opened, heaps, told, count)
 }
 
-/// Looks for a text of an infinite quotient of a code: of its whole game, or else with tracks of the heaps 1 to
-/// at most `heaps`, from 1 to 1024, of an order from 2 to 4096. Tells the text, which `misere_infinite_open`
-/// opens, and how many bytes it has; of a search that was given up the line that says how, which needs
-/// room too. Where there is no room, it tells how many bytes they are alone.
+/// Looks for an infinite quotient of a code: of its whole game, or else a presentation of that of the heaps 1 to at most
+/// `heaps`, from 1 to 1024. Tells the text, which `misere_infinite_open` opens, and how many bytes it has; of a search
+/// that was given up the line that says how, which needs room too. Where there is no room, it tells how many bytes they
+/// are alone.
 #[unsafe(no_mangle)]
 pub extern "C" fn misere_solve_infinite(
     alloc: Global,
     code: &[u8],
-    limit: u32,
     heaps: u32,
-    order: u32,
     told: &mut [u8],
     count: &mut u64,
 ) -> u32
-    ensures found { result ≡ 0
-        → IsToldOf code.now (parts limit heaps order) (take count.new told.new) true }
-    ensures given_up { result ≡ 13
-        → IsToldOf code.now (parts limit heaps order) (take count.new told.new) false }
-    ensures no { result ≢ 0 → result ≢ 13 → result ≢ 14
-        → IsUntold code.now (parts limit heaps order) result }
+    ensures found { result ≡ 0 → IsToldOf code.now heaps (take count.new told.new) true }
+    ensures given_up { result ≡ 13 → IsToldOf code.now heaps (take count.new told.new) false }
+    ensures no { result ≢ 0 → result ≢ 13 → result ≢ 14 → IsUntold code.now heaps result }
     ensures stays { result ≢ 0 → result ≢ 13 → told.new ≡ told.old }
     ensures room { result ≡ 14 → length told.old < count.new }
     ensures counts { result ≡ 14 → (text : List ℕ) × (succeeds : Bool)
-        × IsToldOf code.now (parts limit heaps order) text succeeds × (count.new ≡ length text) }
+        × IsToldOf code.now heaps text succeeds × (count.new ≡ length text) }
     ensures untold { result ≢ 0 → result ≢ 13 → result ≢ 14 → count.new ≡ count.old }
 {
-    solve(alloc, code, limit, heaps, order, told, count)
+    solve(alloc, code, heaps, told, count)
 }
 
-/// Looks for a presentation of an infinite quotient of a code, of the heaps 1 to at most `heaps`, from 1 to 1024. It is made
-/// of a certificate with tracks, which has at most `order` elements, from 2 to 4096. Tells the text, which
-/// `misere_infinite_open` opens, as `misere_solve_infinite` does.
+/// Looks for a presentation of an infinite quotient of a code, of the heaps 1 to at most `heaps`, from 1 to 1024. Tells the
+/// text, which `misere_infinite_open` opens, as `misere_solve_infinite` does.
 #[unsafe(no_mangle)]
 pub extern "C" fn misere_solve_presented(
     alloc: Global,
     code: &[u8],
-    limit: u32,
     heaps: u32,
-    order: u32,
     told: &mut [u8],
     count: &mut u64,
 ) -> u32
-    ensures found { result ≡ 0
-        → IsPresentedOf code.now (parts limit heaps order) (take count.new told.new) true }
-    ensures given_up { result ≡ 13
-        → IsPresentedOf code.now (parts limit heaps order) (take count.new told.new) false }
-    ensures no { result ≢ 0 → result ≢ 13 → result ≢ 14
-        → IsUntold code.now (parts limit heaps order) result }
+    ensures found { result ≡ 0 → IsPresentedOf code.now heaps (take count.new told.new) true }
+    ensures given_up { result ≡ 13 → IsPresentedOf code.now heaps (take count.new told.new) false }
+    ensures no { result ≢ 0 → result ≢ 13 → result ≢ 14 → IsUntold code.now heaps result }
     ensures stays { result ≢ 0 → result ≢ 13 → told.new ≡ told.old }
     ensures room { result ≡ 14 → length told.old < count.new }
     ensures counts { result ≡ 14 → (text : List ℕ) × (succeeds : Bool)
-        × IsPresentedOf code.now (parts limit heaps order) text succeeds × (count.new ≡ length text) }
+        × IsPresentedOf code.now heaps text succeeds × (count.new ≡ length text) }
     ensures untold { result ≢ 0 → result ≢ 13 → result ≢ 14 → count.new ≡ count.old }
 {
-    solve_presented(alloc, code, limit, heaps, order, told, count)
+    solve_presented(alloc, code, heaps, told, count)
 }

@@ -1,12 +1,11 @@
-//! The search for a text of an infinite quotient.
+//! The search for an infinite quotient.
 ghost use Rattle.std.specs.Prelude.{◌≡◌, ◌≢◌, ◌↔◌, ◌<◌, ℕ, Bool, List, true, false, IfOk, IfErr, IsTrue, length, take};
-ghost use Rattle.infinite_library.specs.Found.{AreInRange, IsPresentedOf, IsToldOf, IsUntold, parts};
+ghost use Rattle.infinite_library.specs.Found.{AreInRange, IsPresentedOf, IsToldOf, IsUntold};
 ghost use Rattle.solve_infinite_command.specs.Asked.{IsFound};
 
 use command_results::{Said, Stop};
 use infinite_texts::hand_over;
-use misere_theory::{LARGEST_ORDER, LARGEST_PART};
-use requests::{LARGEST_LIMIT, LEAST_ORDER, PartsBounds};
+use misere_theory::LARGEST_PART;
 use solve_infinite_command::{present_infinite_bytes, solve_infinite_bytes};
 use std::alloc::Global;
 use told_answers::{DONE, MEMORY, NOT_IN_RANGE};
@@ -17,44 +16,41 @@ const NOT_A_CODE: u32 = 12;
 /// The search was given up.
 const GAVE_UP: u32 = 13;
 
-/// Whether each number is in its range.
-fn are_in_range(bounds: PartsBounds) -> bool
-    ensures { IsTrue result ↔ AreInRange bounds }
+/// Whether the heaps are in their range.
+fn are_in_range(heaps: u32) -> bool
+    ensures { IsTrue result ↔ AreInRange heaps }
 {
-    let is_limit = 1 <= bounds.limit && bounds.limit <= LARGEST_LIMIT;
-    let are_heaps = 1 <= bounds.heaps && bounds.heaps <= LARGEST_PART as u32;
-    let is_order = LEAST_ORDER <= bounds.order && bounds.order <= LARGEST_ORDER as u32;
-    is_limit && are_heaps && is_order
+    1 <= heaps && heaps <= LARGEST_PART as u32
 }
 
 /// What is said of the code that the bytes spell, or the status.
-fn found_of(alloc: Global, code: &[u8], bounds: PartsBounds) -> Result<Said, u32>
+fn found_of(alloc: Global, code: &[u8], heaps: u32) -> Result<Said, u32>
     ensures told { IfOk result
-        (λ s. AreInRange bounds × IsFound code.now bounds false s.text.items s.succeeds) }
+        (λ s. AreInRange heaps × IsFound code.now heaps false s.text.items s.succeeds) }
     ensures no { IfErr result (λ s. s ≢ 0 × s ≢ 13 × s ≢ 14) }
-    ensures why { IfErr result (IsUntold code.now bounds) }
+    ensures why { IfErr result (IsUntold code.now heaps) }
 {
-    if !are_in_range(bounds) {
+    if !are_in_range(heaps) {
         return Err(NOT_IN_RANGE);
     }
-    match solve_infinite_bytes(alloc, code, bounds) {
+    match solve_infinite_bytes(alloc, code, heaps) {
         Ok(said) => Ok(said),
         Err(Stop::NotACode) => Err(NOT_A_CODE),
         Err(_) => Err(MEMORY),
     }
 }
 
-/// The same of its presentation. (A function of its own: what calls the other one alone is linked without this search.)
-fn presented_of(alloc: Global, code: &[u8], bounds: PartsBounds) -> Result<Said, u32>
+/// The same of a presentation.
+fn presented_of(alloc: Global, code: &[u8], heaps: u32) -> Result<Said, u32>
     ensures told { IfOk result
-        (λ s. AreInRange bounds × IsFound code.now bounds true s.text.items s.succeeds) }
+        (λ s. AreInRange heaps × IsFound code.now heaps true s.text.items s.succeeds) }
     ensures no { IfErr result (λ s. s ≢ 0 × s ≢ 13 × s ≢ 14) }
-    ensures why { IfErr result (IsUntold code.now bounds) }
+    ensures why { IfErr result (IsUntold code.now heaps) }
 {
-    if !are_in_range(bounds) {
+    if !are_in_range(heaps) {
         return Err(NOT_IN_RANGE);
     }
-    match present_infinite_bytes(alloc, code, bounds) {
+    match present_infinite_bytes(alloc, code, heaps) {
         Ok(said) => Ok(said),
         Err(Stop::NotACode) => Err(NOT_A_CODE),
         Err(_) => Err(MEMORY),
@@ -77,37 +73,20 @@ fn handed(said: &Said, told: &mut [u8], count: &mut u64) -> u32
     status
 }
 
-/// Looks for a text of an infinite quotient of the code, as `misere solve CODE --infinite` does: of the whole
-/// game, or else with tracks of the first heaps, up to `heaps`. Tells the text, and how many bytes it has;
-/// of a search that was given up the line that says how. Where there is no room for them, it tells how
-/// many they are alone.
-pub(crate) fn solve(
-    alloc: Global,
-    code: &[u8],
-    limit: u32,
-    heaps: u32,
-    order: u32,
-    told: &mut [u8],
-    count: &mut u64,
-) -> u32
-    ensures found { result ≡ 0
-        → IsToldOf code.now (parts limit heaps order) (take count.new told.new) true }
-    ensures given_up { result ≡ 13
-        → IsToldOf code.now (parts limit heaps order) (take count.new told.new) false }
-    ensures no { result ≢ 0 → result ≢ 13 → result ≢ 14
-        → IsUntold code.now (parts limit heaps order) result }
+/// Looks for an infinite quotient of the code, as `misere solve CODE --infinite` does: of the whole game, or else of the
+/// first heaps, up to `heaps`. Tells the text, and how many bytes it has; of a search that was given up the line that
+/// says how. Where there is no room for them, it tells how many they are alone.
+pub(crate) fn solve(alloc: Global, code: &[u8], heaps: u32, told: &mut [u8], count: &mut u64) -> u32
+    ensures found { result ≡ 0 → IsToldOf code.now heaps (take count.new told.new) true }
+    ensures given_up { result ≡ 13 → IsToldOf code.now heaps (take count.new told.new) false }
+    ensures no { result ≢ 0 → result ≢ 13 → result ≢ 14 → IsUntold code.now heaps result }
     ensures stays { result ≢ 0 → result ≢ 13 → told.new ≡ told.old }
     ensures room { result ≡ 14 → length told.old < count.new }
     ensures counts { result ≡ 14 → (text : List ℕ) × (succeeds : Bool)
-        × IsToldOf code.now (parts limit heaps order) text succeeds × (count.new ≡ length text) }
+        × IsToldOf code.now heaps text succeeds × (count.new ≡ length text) }
     ensures untold { result ≢ 0 → result ≢ 13 → result ≢ 14 → count.new ≡ count.old }
 {
-    let bounds = PartsBounds {
-        limit,
-        order,
-        heaps,
-    };
-    match found_of(alloc, code, bounds) {
+    match found_of(alloc, code, heaps) {
         Ok(said) => handed(&said, told, count),
         Err(status) => status,
     }
@@ -118,30 +97,20 @@ pub(crate) fn solve(
 pub(crate) fn solve_presented(
     alloc: Global,
     code: &[u8],
-    limit: u32,
     heaps: u32,
-    order: u32,
     told: &mut [u8],
     count: &mut u64,
 ) -> u32
-    ensures found { result ≡ 0
-        → IsPresentedOf code.now (parts limit heaps order) (take count.new told.new) true }
-    ensures given_up { result ≡ 13
-        → IsPresentedOf code.now (parts limit heaps order) (take count.new told.new) false }
-    ensures no { result ≢ 0 → result ≢ 13 → result ≢ 14
-        → IsUntold code.now (parts limit heaps order) result }
+    ensures found { result ≡ 0 → IsPresentedOf code.now heaps (take count.new told.new) true }
+    ensures given_up { result ≡ 13 → IsPresentedOf code.now heaps (take count.new told.new) false }
+    ensures no { result ≢ 0 → result ≢ 13 → result ≢ 14 → IsUntold code.now heaps result }
     ensures stays { result ≢ 0 → result ≢ 13 → told.new ≡ told.old }
     ensures room { result ≡ 14 → length told.old < count.new }
     ensures counts { result ≡ 14 → (text : List ℕ) × (succeeds : Bool)
-        × IsPresentedOf code.now (parts limit heaps order) text succeeds × (count.new ≡ length text) }
+        × IsPresentedOf code.now heaps text succeeds × (count.new ≡ length text) }
     ensures untold { result ≢ 0 → result ≢ 13 → result ≢ 14 → count.new ≡ count.old }
 {
-    let bounds = PartsBounds {
-        limit,
-        order,
-        heaps,
-    };
-    match presented_of(alloc, code, bounds) {
+    match presented_of(alloc, code, heaps) {
         Ok(said) => handed(&said, told, count),
         Err(status) => status,
     }

@@ -1,6 +1,2 @@
 mod Apart
-mod Folded
-mod InPlane
-mod Inside
-mod Labelled
 mod Stopped

@@ -1,5 +1,3 @@
-pub mod Plays
-pub mod Labels
 pub mod Triples
 pub mod Values
 pub mod Told

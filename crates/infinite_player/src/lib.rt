@@ -1,24 +1,13 @@
-//! Playing by an infinite quotient, of some heaps by a certificate with tracks, or of a whole game by
-//! triples: the outcome of a position, and a winning move; of whole games also the triple of a position, and what
-//! tells two apart.
+//! Playing whole games in which one heap may rule all others, by triples: the outcome of a position, a winning move, the
+//! triple of a position, and what tells two positions apart.
 #![tactic(auto)]
 
-mod counting;
 mod guessing;
-mod laws;
-mod places;
-mod play;
-mod regions;
 mod telling;
-mod tracks;
 mod triples;
 mod value;
 mod whole;
 
-pub use laws::plays_stay_inside;
-pub use play::{answer, answer_at, fits, outcome, outcome_at, speaks_of};
-pub use player::Answer;
-pub use positions::Outcome;
 pub use telling::{Separation, whole_apart};
 pub use triples::LARGEST_SUM;
 pub use value::{WholeValue, whole_value};

@@ -1,28 +1,21 @@
--- What is told of bytes that show an infinite quotient, or are a presentation, and of positions by one that is
--- opened. This project's own.
+-- What is told of bytes of whole games and presentations, and of positions by one that is opened. This project's own.
 use Rattle.std.specs.Prelude.{◌≡◌, ◌⊎◌, ◌++◌, ◌-◌, ℕ, List, All, IsPermutation, codes}
 use Rattle.std.specs.List.Sorted.{IsNonDecreasing}
 use Rattle.std.specs.declared.option.Option.{Option}
 use Rattle.misere_theory.specs.Games.{IsHeap, IsPosition}
-use Rattle.counted_claims.specs.Counted.{SpeaksOfHeap}
-use Rattle.tracked_claims.specs.Reads.{claim_in}
-use Rattle.tracked_text.specs.Said.{Said}
-use Rattle.tracked_text.specs.Spelling.{Spells}
 use Rattle.dominance_text.specs.Spelling.{SpellsDominance}
-use Rattle.infinite_answers.specs.Answers.{Why, IsTrueOf, Text, Outcome as Fails}
-use Rattle.infinite_answers.specs.Kept.{IsKeptOf}
-use Rattle.infinite_answers.specs.Shown.{IsShown}
+use Rattle.infinite_answers.specs.Answers.{Why, Text, Outcome as Fails}
 use Rattle.whole_checker.specs.Solved.{IsRefutedWhole, IsSolved}
 use Rattle.presented_text.specs.Spelling.{SpellsPresented}
 use Rattle.presented_tables.specs.Tested.{HasWord}
 use Rattle.presented_checker.specs.Refused.{IsRight, IsTrueOfBytes}
 use Rattle.opened_infinite.specs.Texts.{code_of}
 use Rattle.opened_infinite.specs.declared.text.AcceptedText.{AcceptedText}
-use Rattle.opened_infinite.specs.declared.text.AcceptedText.TheVariants.{Tracks, Whole, Presented}
+use Rattle.opened_infinite.specs.declared.text.AcceptedText.TheVariants.{Whole, Presented}
 use Rattle.positions.specs.Positions.{IsSize}
 use Rattle.positions.specs.Outcomes.{HasOutcome}
 use Rattle.positions.specs.declared.outcome.Outcome.{Outcome}
-use Rattle.player.specs.Answers.{IsRightAnswer, IsTriedAnswer}
+use Rattle.player.specs.Answers.{IsTriedAnswer}
 use Rattle.player.specs.declared.answering.Answer.{Answer}
 use Rattle.told_answers.specs.Numbers.{outcome_number, IsAnswerOf}
 use Rattle.told_answers.specs.Asked.{AreNoEnds, CutInto, IsNoPosition, IsOpened, IsUnopened}
@@ -33,7 +26,6 @@ use Rattle.infinite_queries.specs.Numbers.{status_of}
 
 -- The bytes spell a text that is right, and this is what is kept of it.
 abbrev pub IsShownBy : List ℕ → AcceptedText → Type 0
-IsShownBy bytes (Tracks k) = (c : Said) × Spells bytes c × IsKeptOf k c × IsShown c
 IsShownBy bytes (Whole c) = SpellsDominance bytes c × IsSolved c
 IsShownBy bytes (Presented k) = SpellsPresented bytes k.said × IsRight k
 
@@ -41,19 +33,15 @@ IsShownBy bytes (Presented k) = SpellsPresented bytes k.said × IsRight k
 abbrev pub AreShown : List ℕ → (AcceptedText → Type 0) → Type 0
 AreShown bytes says = (s : AcceptedText) × IsShownBy bytes s × says s
 
--- The bytes begin with the first word of texts of whole games.
-abbrev pub BeginsWhole : List ℕ → Type 0
-BeginsWhole bytes = (rest : List ℕ) × (bytes ≡ codes "mqw " ++ rest)
-
 -- The bytes begin with the first word of presentations.
 abbrev pub BeginsPresented : List ℕ → Type 0
 BeginsPresented bytes = (rest : List ℕ) × (bytes ≡ codes "mqp " ++ rest)
 
--- The refusal is true of the bytes. With Text they spell no text of any of the three kinds. Every other one is true of
--- what they spell: of a certificate with tracks, of a text of a whole game, or of a presentation.
+-- The refusal is true of the bytes. With Text they spell neither a text of a whole game nor a presentation. Every other
+-- one is true of the one that they spell.
 abbrev pub IsTrueOfKinds : List ℕ → Why → Type 0
-IsTrueOfKinds bytes Text = IsTrueOf bytes Text × IsRefutedWhole bytes Text × IsTrueOfBytes bytes Text
-IsTrueOfKinds bytes why = IsTrueOf bytes why ⊎ (IsRefutedWhole bytes why ⊎ IsTrueOfBytes bytes why)
+IsTrueOfKinds bytes Text = IsRefutedWhole bytes Text × IsTrueOfBytes bytes Text
+IsTrueOfKinds bytes why = IsRefutedWhole bytes why ⊎ IsTrueOfBytes bytes why
 
 -- The status is the number of a refusal that is true of the bytes.
 abbrev pub AreRefused : List ℕ → ℕ → Type 0
@@ -68,7 +56,6 @@ FailsAt bytes X = (code : List ℕ) × IsTrueOfKinds bytes (Fails code X)
 -- The text speaks of the heap: of each if it is a text of a whole game, and of one that has a word if it is a
 -- presentation.
 abbrev pub IsSpokenOf : AcceptedText → ℕ → Type 0
-IsSpokenOf (Tracks k) = SpeaksOfHeap (claim_in k.claim)
 IsSpokenOf (Whole c) = IsHeap
 IsSpokenOf (Presented k) = HasWord k.said
 
@@ -76,11 +63,9 @@ IsSpokenOf (Presented k) = HasWord k.said
 abbrev pub SpeaksOf : AcceptedText → List ℕ → Type 0
 SpeaksOf s X = IsPosition (IsSpokenOf s) X
 
--- The right answer in the position. A move is the first one that wins; by a text of a whole game the first of
--- those that leave at most one heap from start on, and by a presentation of those whose parts but the largest are heaps
--- of its list.
+-- The right answer in the position. A move is the first one that wins of those that leave at most one heap from start
+-- on, by a text of a whole game; and of those whose parts but the largest are heaps of its list, by a presentation.
 abbrev pub IsAnswerIn : AcceptedText → List ℕ → Answer → Type 0
-IsAnswerIn (Tracks k) X a = IsRightAnswer k.claim.code X a
 IsAnswerIn (Whole c) X a = IsTriedAnswer c.code (λ _. c.start - 1) X a
 IsAnswerIn (Presented k) X a = IsTriedAnswer k.said.code (λ _. k.said.heaps) X a
 

@@ -1,16 +1,14 @@
--- The numbers of refusals of infinite quotients. This project's own.
+-- The numbers of refusals of whole games and presentations. This project's own.
 use Rattle.std.specs.Prelude.{ℕ}
-use Rattle.infinite_answers.specs.Answers.{Why, Text, Law, Order, Outcome, Limit, Memory, Part, Idle, Undecided, Ray}
+use Rattle.infinite_answers.specs.Answers.{Why, Text, Law, Outcome, Limit, Memory, Part, Undecided, Finite}
 
 -- the number of a refusal
 abbrev pub status_of : Why → ℕ
 status_of Text = 1
 status_of Law = 2
-status_of Order = 4
 status_of (Outcome code X) = 7
 status_of Limit = 8
 status_of Memory = 9
 status_of (Part n) = 31
-status_of Idle = 32
 status_of Undecided = 33
-status_of Ray = 34
+status_of Finite = 34

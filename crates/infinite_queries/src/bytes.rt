@@ -2,10 +2,9 @@
 ghost use Rattle.std.specs.Prelude.{◌≡◌, ◌≢◌, ◌≤◌, ◌<◌, ◌↔◌, IfOk, IfErr, IsTrue, ℕ, List, length, take};
 ghost use Rattle.infinite_answers.specs.Refusals.{refused};
 ghost use Rattle.infinite_queries.specs.Numbers.{status_of};
-ghost use Rattle.infinite_queries.specs.Asked.{AreRefused, AreShown, BeginsPresented, BeginsWhole, FailsAt, IsShownBy, IsTrueOfKinds};
+ghost use Rattle.infinite_queries.specs.Asked.{AreRefused, AreShown, BeginsPresented, FailsAt, IsShownBy, IsTrueOfKinds};
 
 use infinite_answers::InfiniteRefusal;
-use infinite_checker::check_infinite;
 use opened_infinite::AcceptedText;
 use positions::Position;
 use presented_checker::check_presented;
@@ -21,30 +20,11 @@ fn status(refusal: &InfiniteRefusal) -> u32
     refusal.number() as u32
 }
 
-/// Whether the bytes begin as texts of whole games do.
-fn begins_whole(bytes: &[u8]) -> bool
-    ensures { IsTrue result ↔ BeginsWhole bytes.now }
-{
-    bytes.starts_with(b"mqw ")
-}
-
 /// Whether the bytes begin as presentations do.
 fn begins_presented(bytes: &[u8]) -> bool
     ensures { IsTrue result ↔ BeginsPresented bytes.now }
 {
     bytes.starts_with(b"mqp ")
-}
-
-/// What bytes that begin as texts of whole games are accepted as, or why they are refused.
-fn whole(alloc: Global, bytes: &[u8]) -> Result<AcceptedText, InfiniteRefusal>
-    requires { BeginsWhole bytes.now }
-    ensures yes { IfOk result (IsShownBy bytes.now) }
-    ensures no { IfErr result (λ r. IsTrueOfKinds bytes.now (refused r)) }
-{
-    match judge_whole(alloc, bytes) {
-        Ok(game) => Ok(AcceptedText::Whole(game)),
-        Err(refusal) => Err(refusal),
-    }
 }
 
 /// What bytes that begin as presentations are accepted as, or why they are refused.
@@ -60,50 +40,46 @@ fn presented(alloc: Global, bytes: &[u8]) -> Result<AcceptedText, InfiniteRefusa
 }
 
 /// What all other bytes are accepted as, or why they are refused.
-fn tracks(alloc: Global, bytes: &[u8], limit: u32) -> Result<AcceptedText, InfiniteRefusal>
-    requires whole { BeginsWhole bytes.now → ⊥ }
-    requires presented { BeginsPresented bytes.now → ⊥ }
+fn whole(alloc: Global, bytes: &[u8]) -> Result<AcceptedText, InfiniteRefusal>
+    requires { BeginsPresented bytes.now → ⊥ }
     ensures yes { IfOk result (IsShownBy bytes.now) }
     ensures no { IfErr result (λ r. IsTrueOfKinds bytes.now (refused r)) }
 {
-    match check_infinite(alloc, bytes, limit) {
-        Ok(shown) => Ok(AcceptedText::Tracks(shown)),
+    match judge_whole(alloc, bytes) {
+        Ok(game) => Ok(AcceptedText::Whole(game)),
         Err(refusal) => Err(refusal),
     }
 }
 
 /// What the bytes are accepted as, or why they are refused.
-fn accepted(alloc: Global, bytes: &[u8], limit: u32) -> Result<AcceptedText, InfiniteRefusal>
+fn accepted(alloc: Global, bytes: &[u8]) -> Result<AcceptedText, InfiniteRefusal>
     ensures yes { IfOk result (IsShownBy bytes.now) }
     ensures no { IfErr result (λ r. IsTrueOfKinds bytes.now (refused r)) }
 {
-    if begins_whole(bytes) {
-        whole(alloc, bytes)
-    } else if begins_presented(bytes) {
+    if begins_presented(bytes) {
         presented(alloc, bytes)
     } else {
-        tracks(alloc, bytes, limit)
+        whole(alloc, bytes)
     }
 }
 
 /// What the bytes are accepted as, or the number of the refusal.
-pub(crate) fn shown(alloc: Global, bytes: &[u8], limit: u32) -> Result<AcceptedText, u32>
+pub(crate) fn shown(alloc: Global, bytes: &[u8]) -> Result<AcceptedText, u32>
     ensures yes { IfOk result (IsShownBy bytes.now) }
     ensures no { IfErr result (λ s. s ≢ 0 × AreRefused bytes.now s) }
 {
-    match accepted(alloc, bytes, limit) {
+    match accepted(alloc, bytes) {
         Ok(shown) => Ok(shown),
         Err(refusal) => Err(status(&refusal)),
     }
 }
 
-/// Whether the bytes are an accepted text of an infinite quotient or an accepted presentation: 0, or the number of the
-/// refusal.
-pub fn check(alloc: Global, bytes: &[u8], limit: u32) -> u32
+/// Whether the bytes are an accepted text of a whole game or an accepted presentation: 0, or the number of the refusal.
+pub fn check(alloc: Global, bytes: &[u8]) -> u32
     ensures yes { result ≡ 0 → AreShown bytes.now (λ k. Unit {0}) }
     ensures no { result ≢ 0 → AreRefused bytes.now result }
 {
-    match shown(alloc, bytes, limit) {
+    match shown(alloc, bytes) {
         Ok(shown) => {
             drop(shown);
             DONE
@@ -126,7 +102,7 @@ fn tell(bytes: &[u8], position: &Position, told: &mut [u64], count: &mut u64)
 
 /// Checks the bytes, and where the rule of the code's game fails at a position tells how many heaps
 /// it has, and which, if there is room for them.
-pub fn failure(alloc: Global, bytes: &[u8], limit: u32, told: &mut [u64], count: &mut u64) -> u32
+pub fn failure(alloc: Global, bytes: &[u8], told: &mut [u64], count: &mut u64) -> u32
     ensures yes { result ≡ 0 → AreShown bytes.now (λ k. Unit {0}) }
     ensures no { result ≢ 0 → AreRefused bytes.now result }
     ensures fails { result ≡ 7 → count.new ≤ length told.old
@@ -135,7 +111,7 @@ pub fn failure(alloc: Global, bytes: &[u8], limit: u32, told: &mut [u64], count:
     ensures no_room { length told.old < count.new → told.new ≡ told.old }
     ensures stays { result ≢ 7 → told.new ≡ told.old × count.new ≡ count.old }
 {
-    match accepted(alloc, bytes, limit) {
+    match accepted(alloc, bytes) {
         Ok(shown) => {
             drop(shown);
             DONE

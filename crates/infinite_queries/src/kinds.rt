@@ -6,12 +6,12 @@ ghost use Rattle.positions.specs.Outcomes.{HasOutcome};
 ghost use Rattle.positions.specs.Positions.{IsSize};
 ghost use Rattle.infinite_queries.specs.Asked.{IsAnswerIn, SpeaksOf};
 
-use infinite_player::{answer_at, outcome_at, speaks_of, whole_answer_at, whole_outcome_at};
+use infinite_player::{whole_answer_at, whole_outcome_at};
 use opened_infinite::AcceptedText;
 use player::Answer;
 use positions::Outcome;
 use presented_checker::PresentedQuotient;
-use presented_player::{presented_answer_at, presented_outcome_at, speaks_of as has_words};
+use presented_player::{presented_answer_at, presented_outcome_at, speaks_of};
 
 /// Whether the text speaks of each of these heaps, which stand in any order.
 pub(crate) fn speaks(shown: &AcceptedText, heaps: &[u64]) -> bool
@@ -19,9 +19,8 @@ pub(crate) fn speaks(shown: &AcceptedText, heaps: &[u64]) -> bool
     ensures { IsTrue result ↔ SpeaksOf shown.now heaps.now }
 {
     match shown {
-        AcceptedText::Tracks(tracks) => speaks_of(tracks, heaps),
         AcceptedText::Whole(_) => true,
-        AcceptedText::Presented(quotient) => has_words(quotient, heaps),
+        AcceptedText::Presented(quotient) => speaks_of(quotient, heaps),
     }
 }
 
@@ -31,7 +30,6 @@ pub(crate) fn winner(shown: &AcceptedText, heaps: &[u64]) -> Outcome
     ensures { HasOutcome (code_of shown.now) heaps.now result }
 {
     match shown {
-        AcceptedText::Tracks(tracks) => outcome_at(tracks, heaps),
         AcceptedText::Whole(game) => whole_outcome_at(game, heaps),
         AcceptedText::Presented(quotient) => presented_outcome_at(quotient, heaps),
     }
@@ -44,7 +42,6 @@ pub(crate) fn rising_answer(shown: &AcceptedText, heaps: &[u64]) -> Answer
     ensures { IsAnswerIn shown.now heaps.now result }
 {
     match shown {
-        AcceptedText::Tracks(tracks) => answer_at(tracks, heaps),
         AcceptedText::Whole(game) => whole_answer_at(game, heaps),
         AcceptedText::Presented(quotient) => presented_answer_at(quotient, heaps),
     }
@@ -76,7 +73,6 @@ pub(crate) fn kind_of(shown: &AcceptedText) -> u64
     ensures { result ≡ kind_of shown.now }
 {
     match shown {
-        AcceptedText::Tracks(tracks) => tracks.last() as u64,
         AcceptedText::Whole(_) => 0,
         AcceptedText::Presented(quotient) => last_of(quotient),
     }

@@ -19,11 +19,11 @@ fn boxed(alloc: Global, shown: AcceptedText) -> Result<Box<InfiniteQuotient>, Me
 }
 
 /// The first owner of what the bytes show, or the number of the refusal.
-fn owner(alloc: Global, bytes: &[u8], limit: u32) -> Result<Box<InfiniteQuotient>, u32>
+fn owner(alloc: Global, bytes: &[u8]) -> Result<Box<InfiniteQuotient>, u32>
     ensures yes { IfOk result (λ b. AreShown bytes.now (λ k. b.value ≡ k)) }
     ensures no { IfErr result (λ s. s ≢ 0 × AreRefused bytes.now s) }
 {
-    let shown = shown(alloc, bytes, limit)?;
+    let shown = shown(alloc, bytes)?;
     match boxed(alloc, shown) {
         Ok(quotient) => Ok(quotient),
         Err(_) => Err(MEMORY),
@@ -32,12 +32,12 @@ fn owner(alloc: Global, bytes: &[u8], limit: u32) -> Result<Box<InfiniteQuotient
 
 /// Opens the quotient that the bytes show, in place of what was opened there: 0, or the number of the refusal. The bytes
 /// aren't needed any more.
-pub fn open(alloc: Global, bytes: &[u8], limit: u32, told: &mut OpenedInfinite) -> u32
+pub fn open(alloc: Global, bytes: &[u8], told: &mut OpenedInfinite) -> u32
     ensures yes { result ≡ 0 → AreShown bytes.now (λ k. told.new.handle.value ≡ Some k) }
     ensures no { result ≢ 0 → AreRefused bytes.now result }
     ensures stays { result ≢ 0 → told.new ≡ told.old }
 {
-    match owner(alloc, bytes, limit) {
+    match owner(alloc, bytes) {
         Ok(quotient) => {
             told.put(alloc, quotient);
             DONE

@@ -1,13 +1,12 @@
 -- What is told of an infinite quotient or of a presentation that is opened, in a text. This project's own.
 use Rattle.std.specs.Prelude.{◌≡◌, ◌⊎◌, ◌≤◌, ℕ, List}
 use Rattle.std.specs.declared.option.Option.{Option}
-use Rattle.infinite_descriptions.specs.Described.{IsDescription}
 use Rattle.infinite_descriptions.specs.declared.describing.Output.{Output}
 use Rattle.infinite_descriptions.specs.declared.describing.Output.TheVariants.{Plain, Latex, Json}
 use Rattle.octal_code.specs.Text.{code_text}
 use Rattle.opened_infinite.specs.Texts.{code_of}
 use Rattle.opened_infinite.specs.declared.text.AcceptedText.{AcceptedText}
-use Rattle.opened_infinite.specs.declared.text.AcceptedText.TheVariants.{Tracks, Whole, Presented}
+use Rattle.opened_infinite.specs.declared.text.AcceptedText.TheVariants.{Whole, Presented}
 use Rattle.presented_descriptions.specs.Described.{presented_text_for}
 use Rattle.told_answers.specs.Asked.{IsOpened, IsUnopened}
 
@@ -17,9 +16,8 @@ IsOutput number Plain = number ≡ 0
 IsOutput number Latex = number ≡ 1
 IsOutput number Json = number ≡ 3
 
--- the text describes the certificate with tracks, or the presentation
+-- the text describes the presentation
 abbrev pub IsTextBy : Output → AcceptedText → List ℕ → Type 0
-IsTextBy output (Tracks k) text = IsDescription output k text
 IsTextBy output (Whole c) text = ⊥
 IsTextBy output (Presented k) text = text ≡ presented_text_for output k
 
@@ -33,7 +31,6 @@ IsOpenedText opened number text = IsOpened opened (λ s. IsTextFor number s text
 
 -- it is a text of a whole game, and no presentation
 abbrev pub IsWhole : AcceptedText → Type 0
-IsWhole (Tracks k) = ⊥
 IsWhole (Whole c) = Unit {0}
 IsWhole (Presented k) = ⊥
 

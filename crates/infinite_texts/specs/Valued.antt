@@ -10,7 +10,7 @@ use Rattle.presented_tables.specs.Tested.{HasWord}
 use Rattle.presented_checker.specs.Refused.{Kept}
 use Rattle.presented_player.specs.Forms.{IsFormOf}
 use Rattle.opened_infinite.specs.declared.text.AcceptedText.{AcceptedText}
-use Rattle.opened_infinite.specs.declared.text.AcceptedText.TheVariants.{Tracks, Whole, Presented}
+use Rattle.opened_infinite.specs.declared.text.AcceptedText.TheVariants.{Whole, Presented}
 use Rattle.told_answers.specs.Asked.{IsNoPosition, IsOpened, IsUnopened}
 
 -- The text is the normal form of the position of these heaps, as a word.
@@ -20,7 +20,6 @@ IsWordOf heaps k text =
 
 -- The same by a presentation.
 abbrev pub IsValueIn : List ℕ → AcceptedText → List ℕ → Type 0
-IsValueIn heaps (Tracks k) text = ⊥
 IsValueIn heaps (Whole c) text = ⊥
 IsValueIn heaps (Presented k) text = IsWordOf heaps k text
 
@@ -37,7 +36,6 @@ IsUnspelled heaps k status =
 
 -- Why none is told: it isn't a presentation, or as above.
 abbrev pub IsUnvalued : List ℕ → AcceptedText → ℕ → Type 0
-IsUnvalued heaps (Tracks k) status = status ≡ 16
 IsUnvalued heaps (Whole c) status = status ≡ 16
 IsUnvalued heaps (Presented k) status = IsUnspelled heaps k status
 

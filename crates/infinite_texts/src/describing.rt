@@ -2,15 +2,13 @@
 ghost use Rattle.std.specs.Prelude.{◌≡◌, ◌≢◌, ◌<◌, ◌≤◌, ◌⊎◌, ℕ, List, None, IfSome, IfOk, IfErr, length, take};
 ghost use Rattle.std.specs.String.{string_bytes};
 ghost use Rattle.infinite_texts.specs.Described.{IsOpenedCode, IsOpenedText, IsOpenedUntold, IsOutput, IsTextBy, IsTextFor, IsUndescribed, IsUntoldOf};
-ghost use Rattle.infinite_descriptions.specs.Described.{IsDescription};
 ghost use Rattle.octal_code.specs.Text.{code_text};
 ghost use Rattle.opened_infinite.specs.Texts.{code_of};
 ghost use Rattle.presented_descriptions.specs.Described.{presented_text_for};
 ghost use Rattle.told_answers.specs.Asked.{IsUnshared};
 
 use allocation::Memory;
-use infinite_answers::Infinite;
-use infinite_descriptions::{Output, described};
+use infinite_descriptions::Output;
 use opened_infinite::{AcceptedText, OpenedInfinite};
 use presented_checker::PresentedQuotient;
 use presented_descriptions::presented_text;
@@ -44,24 +42,12 @@ fn presented(alloc: Global, quotient: &PresentedQuotient, output: Output) -> Res
     }
 }
 
-/// The text of a certificate with tracks; or the status.
-fn tracked(alloc: Global, tracks: &Infinite, output: Output) -> Result<Vec<u8>, u32>
-    ensures told { IfOk result (λ t. IsDescription output tracks.now t.items) }
-    ensures no { IfErr result (λ s. s ≡ 9) }
-{
-    match described(alloc, tracks, output) {
-        Ok(text) => Ok(text),
-        Err(_) => Err(MEMORY),
-    }
-}
-
 /// The text in this output; or the status.
 fn text_of(alloc: Global, shown: &AcceptedText, output: Output) -> Result<Vec<u8>, u32>
     ensures told { IfOk result (λ t. IsTextBy output shown.now t.items) }
     ensures why { IfErr result (IsUndescribed shown.now) }
 {
     match shown {
-        AcceptedText::Tracks(tracks) => tracked(alloc, tracks, output),
         AcceptedText::Whole(_) => Err(NOT_DESCRIBED),
         AcceptedText::Presented(quotient) => presented(alloc, quotient, output),
     }
@@ -142,7 +128,6 @@ fn code_in(alloc: Global, shown: &AcceptedText) -> Result<String, Memory>
     ensures { IfOk result (λ t. string_bytes t ≡ code_text (code_of shown.now)) }
 {
     match shown {
-        AcceptedText::Tracks(tracks) => tracks.code().text(alloc),
         AcceptedText::Whole(game) => game.code().text(alloc),
         AcceptedText::Presented(quotient) => quotient.code().text(alloc),
     }

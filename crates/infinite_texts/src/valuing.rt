@@ -77,7 +77,6 @@ fn value_in(alloc: Global, shown: &AcceptedText, heaps: &[u64]) -> Result<Vec<u8
     ensures why { IfErr result (IsUnvalued heaps.now shown.now) }
 {
     match shown {
-        AcceptedText::Tracks(_) => Err(NOT_DESCRIBED),
         AcceptedText::Whole(_) => Err(NOT_DESCRIBED),
         AcceptedText::Presented(quotient) => spelled(alloc, quotient, heaps),
     }

@@ -13,9 +13,9 @@ use told_answers::{DONE, MEMORY, MisereAnswer, OUTCOME, put};
 /// The version of these calls.
 #[unsafe(no_mangle)]
 pub extern "C" fn misere_version() -> u32
-    ensures { result ≡ 1 }
+    ensures { result ≡ 2 }
 {
-    1
+    2
 }
 
 /// Whether the bytes are an accepted certificate: 0, or the number of the refusal.

@@ -1,6 +1,6 @@
 //! Infinite quotients that were opened, and those that generators and relations present: a text that a check has accepted,
-//! with tracks, of a whole game or a presentation, kept for many questions, and as a handle for whoever isn't written in
-//! this language. After the crate `opened`.
+//! of a whole game or a presentation, kept for many questions, and as a handle for whoever isn't written in this language.
+//! After the crate `opened`.
 #![tactic(auto)]
 
 mod handle;

@@ -1,13 +1,10 @@
-//! Accepted texts of infinite quotients, of each kind, and of presentations.
-use infinite_answers::Infinite;
+//! Accepted texts of whole games and presentations.
 use presented_checker::PresentedQuotient;
 use whole_checker::WholeGame;
 
 /// A text that a check has accepted. The misère quotient of its heaps is infinite; of a presentation it may be finite.
 #[derive(Drop)]
 pub enum AcceptedText {
-    /// A certificate with tracks, of some heaps.
-    Tracks(Infinite),
     /// A text of a whole game, of heaps of every size.
     Whole(WholeGame),
     /// A presentation by generators and relations, of some heaps or of a whole game.

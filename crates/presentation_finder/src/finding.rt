@@ -1,119 +1,53 @@
-//! Presentations of quotients that were accepted.
-ghost use Rattle.std.specs.Prelude.{◌≡◌, ◌≤◌, IfOk, length};
-ghost use Rattle.presented_text.specs.Spelling.{SpellsPresented};
-ghost use Rattle.presented_checker.specs.Refused.{IsRight};
+//! The search for an infinite quotient of a code, by all means.
+ghost use Rattle.std.specs.Prelude.{◌≡◌, ◌≤◌, IfOk, None};
 
+use crate::fitting::fitting;
+use crate::learned::present_code;
 use allocation::{Memory, SmallAllocator};
-use infinite_answers::{Infinite, InfiniteRefusal};
-use presentation_search::{ClaimValues, of_tracked, text_of};
-use presented_checker::{PresentedQuotient, check_presented};
-use quotient_search::Halt;
-use std::alloc::Global;
+use infinite_finder::{Unfound, find_by_claims};
+use octal_code::Code;
+use presentation_search::FoundPresentation;
 
-/// How many attempts there are, each of which looks further.
-const ATTEMPTS: u32 = 3;
-
-/// A presentation that was found, and what the check of its bytes keeps of it.
-#[derive(Drop)]
-pub struct FoundPresentation<A: SmallAllocator = Global> {
-    pub text: Vec<u8, A>,
-    pub quotient: PresentedQuotient<A>,
-}
-
-/// Why none was found. Nothing is claimed of the quotient.
-#[derive(Clone, Copy, Debug, PartialEq, Eq)]
-pub enum Unpresented {
-    /// The claim has more than two tracks.
-    Tracks,
-    /// The search came to its bound of work, of letters or of words.
-    Work,
-    /// What was found is larger than the check takes.
-    Limit,
-    /// What was found was refused by the check.
-    Refused,
-}
-
-/// Has a text checked.
-pub(crate) fn accepted<A: SmallAllocator + Copy>(
+/// Looks for a presentation by the code alone, where no claim was right.
+fn learned_instead<A: SmallAllocator + Copy>(
     alloc: A,
-    text: Vec<u8, A>,
-) -> Result<Result<FoundPresentation<A>, Unpresented>, Memory>
-    ensures { IfOk result (λ found. IfOk found
-        (λ f. SpellsPresented f.text.items f.quotient.said × IsRight f.quotient)) }
-{
-    match check_presented(alloc, &text) {
-        Ok(quotient) => Ok(Ok(FoundPresentation { text, quotient })),
-        Err(InfiniteRefusal::Memory) => Err(Memory),
-        Err(InfiniteRefusal::Limit) => Ok(Err(Unpresented::Limit)),
-        Err(_) => Ok(Err(Unpresented::Refused)),
-    }
-}
-
-/// Looks for a presentation at one attempt.
-fn attempted<A: SmallAllocator + Copy>(
-    alloc: A,
-    source: &ClaimValues<A>,
-    attempt: u32,
-) -> Result<Result<FoundPresentation<A>, Unpresented>, Memory>
-    ensures { IfOk result (λ found. IfOk found
-        (λ f. SpellsPresented f.text.items f.quotient.said × IsRight f.quotient)) }
-{
-    let text = match text_of(alloc, source, attempt) {
-        Ok(text) => text,
-        Err(Halt::Memory) => return Err(Memory),
-        Err(Halt::Repairs) => return Ok(Err(Unpresented::Refused)),
-        Err(_) => return Ok(Err(Unpresented::Work)),
-    };
-    accepted(alloc, text)
-}
-
-/// Looks for a presentation of a claim.
-pub(crate) fn presented<A: SmallAllocator + Copy>(
-    alloc: A,
-    source: &ClaimValues<A>,
-) -> Result<Result<FoundPresentation<A>, Unpresented>, Memory>
-    ensures { IfOk result (λ found. IfOk found
-        (λ f. SpellsPresented f.text.items f.quotient.said × IsRight f.quotient)) }
-{
-    for attempt in 0..ATTEMPTS {
-        match attempted(alloc, source, attempt)? {
-            Ok(found) => return Ok(Ok(found)),
-            Err(Unpresented::Refused) => {}
-            Err(why) => return Ok(Err(why)),
-        }
-    }
-    Ok(Err(Unpresented::Refused))
-}
-
-/// Looks for the presentation of the quotient of the heaps of a certificate with tracks. What it hands out was accepted
-/// by the check of its bytes and is of this code. It is of a list of heaps, as the certificate is, and the list is no
-/// longer. The work is bounded.
-pub fn present_infinite<A: SmallAllocator + Copy>(
-    alloc: A,
-    shown: &Infinite<A>,
-) -> Result<Result<FoundPresentation<A>, Unpresented>, Memory>
-    ensures accepted { IfOk result (λ found. IfOk found
-        (λ f. SpellsPresented f.text.items f.quotient.said × IsRight f.quotient)) }
-    ensures code { IfOk result (λ found. IfOk found (λ f. f.quotient.said.code ≡ shown.now.claim.code)) }
+    code: &Code,
+    heaps: usize,
+    why: Unfound,
+) -> Result<Result<FoundPresentation<A>, Unfound>, Memory>
+    ensures code { IfOk result (λ found. IfOk found (λ f. f.quotient.said.code ≡ code.now)) }
     ensures part { IfOk result (λ found. IfOk found (λ f. f.quotient.said.period ≡ 0)) }
-    ensures few { IfOk result (λ found. IfOk found
-        (λ f. f.quotient.said.heaps ≤ length shown.now.claim.heaps)) }
+    ensures few { IfOk result (λ found. IfOk found (λ f. f.quotient.said.heaps ≤ heaps)) }
+    ensures endless { IfOk result (λ found. IfOk found (λ f. f.quotient.order ≡ None)) }
 {
-    let source = match of_tracked(alloc, shown.claim()) {
-        Ok(Some(source)) => source,
-        Ok(None) => return Ok(Err(Unpresented::Tracks)),
-        Err(Halt::Memory) => return Err(Memory),
-        Err(_) => return Ok(Err(Unpresented::Work)),
-    };
-    let found = match presented(alloc, &source)? {
+    match present_code(alloc, code, heaps)? {
+        Some(found) => Ok(Ok(found)),
+        None => Ok(Err(why)),
+    }
+}
+
+/// Looks for a part of the code's game whose quotient is infinite, and for the presentation of that quotient: by claims
+/// with two heaps that run against each other; and if none is right, though some part seems to have no finite quotient,
+/// by the relations of words alone. What it hands out was accepted by the check of its bytes, is of this code and infinite,
+/// and is of a list of heaps that goes no further than `heaps`. Where nothing is found, nothing is claimed of the game. The
+/// work is bounded.
+pub fn find_presentation<A: SmallAllocator + Copy>(
+    alloc: A,
+    code: &Code,
+    heaps: usize,
+) -> Result<Result<FoundPresentation<A>, Unfound>, Memory>
+    ensures code { IfOk result (λ found. IfOk found (λ f. f.quotient.said.code ≡ code.now)) }
+    ensures part { IfOk result (λ found. IfOk found (λ f. f.quotient.said.period ≡ 0)) }
+    ensures few { IfOk result (λ found. IfOk found (λ f. f.quotient.said.heaps ≤ heaps)) }
+    ensures endless { IfOk result (λ found. IfOk found (λ f. f.quotient.order ≡ None)) }
+{
+    let found = match find_by_claims(alloc, code, heaps)? {
         Ok(found) => found,
-        Err(why) => return Ok(Err(why)),
+        Err(Unfound::Finite { heaps }) => return Ok(Err(Unfound::Finite { heaps })),
+        Err(why) => return learned_instead(alloc, code, heaps, why),
     };
-    let is_part = found.quotient.period() == 0;
-    let is_few = found.quotient.heaps() as usize <= shown.last();
-    if is_part && is_few && *found.quotient.code() == *shown.code() {
-        Ok(Ok(found))
-    } else {
-        Ok(Err(Unpresented::Refused))
+    match fitting(code, heaps, found) {
+        Some(found) => Ok(Ok(found)),
+        None => Ok(Err(Unfound::Refused)),
     }
 }

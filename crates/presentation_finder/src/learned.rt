@@ -1,12 +1,11 @@
 //! Presentations of infinite quotients from codes alone.
 ghost use Rattle.std.specs.Prelude.{◌≡◌, ◌≤◌, IfOk, IfSome, None};
-ghost use Rattle.presented_text.specs.Spelling.{SpellsPresented};
-ghost use Rattle.presented_checker.specs.Refused.{IsRight};
 
-use crate::finding::{FoundPresentation, Unpresented, accepted};
+use crate::fitting::fitting;
 use allocation::{Memory, SmallAllocator};
 use octal_code::Code;
 use presentation_learner::{Learner, Scope};
+use presentation_search::{FoundPresentation, Unpresented, accepted};
 use quotient_search::Halt;
 
 /// How many attempts there are at a part, each of which looks further.
@@ -30,20 +29,16 @@ enum Unlearned {
 fn judged<A: SmallAllocator + Copy>(
     alloc: A,
     text: Vec<u8, A>,
-) -> Result<Result<FoundPresentation<A>, Unlearned>, Memory>
-    ensures accepted { IfOk result (λ found. IfOk found
-        (λ f. SpellsPresented f.text.items f.quotient.said × IsRight f.quotient)) }
-    ensures endless { IfOk result (λ found. IfOk found (λ f. f.quotient.order ≡ None)) }
-{
+) -> Result<Result<FoundPresentation<A>, Unlearned>, Memory> {
     let found = match accepted(alloc, text)? {
         Ok(found) => found,
         Err(Unpresented::Refused) => return Ok(Err(Unlearned::Refused)),
         Err(_) => return Ok(Err(Unlearned::Bound)),
     };
-    match found.quotient.order() {
-        None => Ok(Ok(found)),
-        Some(_) => Ok(Err(Unlearned::Finite)),
+    if found.quotient().order().is_some() {
+        return Ok(Err(Unlearned::Finite));
     }
+    Ok(Ok(found))
 }
 
 /// Looks for a presentation of a part at one attempt.
@@ -53,11 +48,7 @@ fn attempted<A: SmallAllocator + Copy>(
     last: usize,
     scope: Scope,
     attempt: u16,
-) -> Result<Result<FoundPresentation<A>, Unlearned>, Memory>
-    ensures accepted { IfOk result (λ found. IfOk found
-        (λ f. SpellsPresented f.text.items f.quotient.said × IsRight f.quotient)) }
-    ensures endless { IfOk result (λ found. IfOk found (λ f. f.quotient.order ≡ None)) }
-{
+) -> Result<Result<FoundPresentation<A>, Unlearned>, Memory> {
     match learner.text_of_part(last, scope, attempt) {
         Ok(Some(text)) => judged(alloc, text),
         Ok(None) => Ok(Err(Unlearned::Finite)),
@@ -73,11 +64,7 @@ fn learned<A: SmallAllocator + Copy>(
     learner: &mut Learner<A>,
     last: usize,
     scope: Scope,
-) -> Result<Result<FoundPresentation<A>, Unlearned>, Memory>
-    ensures accepted { IfOk result (λ found. IfOk found
-        (λ f. SpellsPresented f.text.items f.quotient.said × IsRight f.quotient)) }
-    ensures endless { IfOk result (λ found. IfOk found (λ f. f.quotient.order ≡ None)) }
-{
+) -> Result<Result<FoundPresentation<A>, Unlearned>, Memory> {
     for attempt in 0..ATTEMPTS {
         match attempted(alloc, learner, last, scope, attempt)? {
             Ok(found) => return Ok(Ok(found)),
@@ -96,11 +83,7 @@ fn found_at<A: SmallAllocator + Copy>(
     all: &mut Learner<A>,
     last: usize,
     is_open: &mut bool,
-) -> Result<Option<FoundPresentation<A>>, Memory>
-    ensures accepted { IfOk result (λ found. IfSome found
-        (λ f. SpellsPresented f.text.items f.quotient.said × IsRight f.quotient)) }
-    ensures endless { IfOk result (λ found. IfSome found (λ f. f.quotient.order ≡ None)) }
-{
+) -> Result<Option<FoundPresentation<A>>, Memory> {
     if let Ok(found) = learned(alloc, reached, last, Scope::Reached)? {
         return Ok(Some(found));
     }
@@ -116,26 +99,6 @@ fn found_at<A: SmallAllocator + Copy>(
     }
 }
 
-/// What was found, if it is of this code and of a list of at most so many heaps.
-fn fitting<A: SmallAllocator>(
-    code: &Code,
-    heaps: usize,
-    found: FoundPresentation<A>,
-) -> Option<FoundPresentation<A>>
-    ensures same { IfSome result (λ f. f ≡ found) }
-    ensures code { IfSome result (λ f. f.quotient.said.code ≡ code.now) }
-    ensures part { IfSome result (λ f. f.quotient.said.period ≡ 0) }
-    ensures few { IfSome result (λ f. f.quotient.said.heaps ≤ heaps) }
-{
-    let is_part = found.quotient.period() == 0;
-    let is_few = found.quotient.heaps() as usize <= heaps;
-    if is_part && is_few && *found.quotient.code() == *code {
-        Some(found)
-    } else {
-        None
-    }
-}
-
 /// Looks for the first heap up to `heaps` at which a part of a game has an infinite quotient, by the code alone, and
 /// for the presentation of that quotient. What it hands out was accepted by the check of its bytes, and is of this code
 /// and of a list of heaps, which is no longer. If it finds none, nothing is claimed of the game. The work is bounded.
@@ -144,8 +107,6 @@ pub fn present_code<A: SmallAllocator + Copy>(
     code: &Code,
     heaps: usize,
 ) -> Result<Option<FoundPresentation<A>>, Memory>
-    ensures accepted { IfOk result (λ found. IfSome found
-        (λ f. SpellsPresented f.text.items f.quotient.said × IsRight f.quotient)) }
     ensures endless { IfOk result (λ found. IfSome found (λ f. f.quotient.order ≡ None)) }
     ensures code { IfOk result (λ found. IfSome found (λ f. f.quotient.said.code ≡ code.now)) }
     ensures part { IfOk result (λ found. IfSome found (λ f. f.quotient.said.period ≡ 0)) }

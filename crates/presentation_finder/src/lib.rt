@@ -1,14 +1,15 @@
 //! The search for the presentation of a misère quotient.
 //!
-//! It goes by what an accepted certificate claims, or learns the relations from a code alone. Nothing is believed of
-//! the search: what it hands out was accepted by the check of its bytes. If the check refuses a text, the next attempt
-//! looks at words and contexts further out.
+//! It goes by a quotient that is certified, or finds an infinite quotient from a code alone. Nothing is believed of the
+//! search: what it hands out was accepted by the check of its bytes. If the check refuses a text, the next attempt looks at
+//! words and contexts further out.
 #![tactic(auto)]
 
 mod certified;
 mod finding;
+mod fitting;
 mod learned;
 
 pub use certified::present_certified;
-pub use finding::{FoundPresentation, Unpresented, present_infinite};
+pub use finding::find_presentation;
 pub use learned::present_code;

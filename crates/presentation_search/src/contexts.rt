@@ -1,5 +1,5 @@
 //! The values of positions whose downs and ups aren't far apart.
-use crate::tracks::{window_place, window_size};
+use crate::counts::{window_place, window_size};
 use crate::values::{Value, ValueTable};
 use quotient_search::{Halt, Work};
 use running_pairs::{byte, put_byte};
@@ -8,36 +8,24 @@ use std::alloc::Allocator;
 /// The most values in a window.
 const MOST_PLACES: usize = 1 << 26;
 
-/// How far downs and ups may be apart, on each of two tracks.
-#[derive(Clone, Copy)]
-pub struct Window {
-    pub first: u32,
-    pub second: u32,
+/// Whether downs and ups of a value are apart no further than a window.
+#[inline]
+pub fn is_within(window: u32, value: Value) -> bool {
+    value.counts.apart() <= window
 }
 
-impl Window {
-    /// Whether a value lies in it.
-    #[inline]
-    pub fn has(self, value: Value) -> bool {
-        value.first.apart() <= self.first && value.second.apart() <= self.second
-    }
+/// How many values may lie in a window.
+fn size_of<A: Allocator>(values: &ValueTable<A>, window: u32) -> usize {
+    values
+        .order
+        .saturating_mul(window_size(values.fold, window))
+}
 
-    /// How many values may lie in it.
-    fn size<A: Allocator>(self, values: &ValueTable<A>) -> usize {
-        values
-            .order
-            .saturating_mul(window_size(values.first, self.first))
-            .saturating_mul(window_size(values.second, self.second))
-    }
-
-    /// The number of a value that lies in it.
-    fn place<A: Allocator>(self, values: &ValueTable<A>, value: Value) -> usize {
-        (value.element as usize)
-            .wrapping_mul(window_size(values.first, self.first))
-            .wrapping_add(window_place(values.first, self.first, value.first))
-            .wrapping_mul(window_size(values.second, self.second))
-            .wrapping_add(window_place(values.second, self.second, value.second))
-    }
+/// The number of a value that lies in a window.
+fn place_of<A: Allocator>(values: &ValueTable<A>, window: u32, value: Value) -> usize {
+    (value.element as usize)
+        .wrapping_mul(window_size(values.fold, window))
+        .wrapping_add(window_place(values.fold, window, value.counts))
 }
 
 /// Values on the way, and which are among them.
@@ -63,10 +51,10 @@ pub fn contexts_of<A: Allocator + Copy>(
     alloc: A,
     values: &ValueTable<A>,
     heaps: &[Value],
-    window: Window,
+    window: u32,
     work: &mut Work,
 ) -> Result<Vec<Value, A>, Halt> {
-    let size = window.size(values);
+    let size = size_of(values, window);
     if size > MOST_PLACES {
         return Err(Halt::TooLarge);
     }
@@ -75,7 +63,7 @@ pub fn contexts_of<A: Allocator + Copy>(
         list: Vec::new(alloc),
         marks: vec![in alloc; 0u8; size]?,
     };
-    reached.add(Value::ONE, window.place(values, Value::ONE))?;
+    reached.add(Value::ONE, place_of(values, window, Value::ONE))?;
     for next in 0..size {
         let Some(value) = reached.list.get(next).copied() else {
             break;
@@ -83,8 +71,8 @@ pub fn contexts_of<A: Allocator + Copy>(
         work.spend(heaps.len().saturating_mul(32))?;
         for heap in heaps.iter() {
             let sum = values.times(value, *heap);
-            if window.has(sum) {
-                reached.add(sum, window.place(values, sum))?;
+            if is_within(window, sum) {
+                reached.add(sum, place_of(values, window, sum))?;
             }
         }
     }

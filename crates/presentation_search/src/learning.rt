@@ -1,5 +1,5 @@
 //! Relations between letters, learned word by word.
-use crate::contexts::Window;
+use crate::contexts::is_within;
 use crate::telling::{Contexts, Met, Tree};
 use crate::values::Value;
 use normal_forms::{Exponents, Rule};
@@ -19,7 +19,7 @@ pub const LONGEST_WORD: u32 = 4096;
 /// How far it goes: values in a window, and words of so many letters.
 #[derive(Clone, Copy)]
 pub struct WordExtent {
-    pub window: Window,
+    pub window: u32,
     pub length: u32,
 }
 
@@ -72,7 +72,7 @@ impl<A: Allocator> Learned<A> {
         &mut self,
         contexts: &mut Contexts<'_, A>,
         letters: &[Value],
-        window: Window,
+        window: u32,
         item: usize,
         work: &mut Work,
     ) -> Result<(), Halt> {
@@ -80,7 +80,7 @@ impl<A: Allocator> Learned<A> {
         for letter in last_letter(&word)..letters.len() {
             let by = letters.get(letter).copied().unwrap_or(Value::ONE);
             let value = contexts.values.times(self.value(item), by);
-            if !window.has(value) {
+            if !is_within(window, value) {
                 continue;
             }
             work.spend(self.rules.len().saturating_mul(4))?;

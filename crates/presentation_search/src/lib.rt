@@ -1,11 +1,12 @@
 //! A search for generators, relations and portion of a misère quotient.
 //!
-//! Nothing is promised of what is found. It is a text, which a check accepts or refuses.
+//! Nothing is believed of the search. What it finds is a text, which the check of its bytes accepts or refuses; only a text
+//! that was accepted is handed out.
 //!
 //! # The method
 //!
-//! 1. A claim with tracks that a check has accepted tells the outcome of each position by its *value*: an element,
-//!    and on each track the downs and ups that are left when steps are taken from both. Values are multiplied. So two
+//! 1. A claim, right or wrong, tells the outcome of each position by its *value*: an element, and the downs and ups of two
+//!    heaps that run against each other, which are left when steps are taken from both. Values are multiplied. So two
 //!    values are indistinguishable exactly if no value of a position, their *context*, tells them apart. Contexts
 //!    whose downs and ups are far apart repeat those that are nearer, so a *window* of them is tried. The values of a
 //!    finite quotient are its elements, and all of them are contexts.
@@ -22,6 +23,9 @@
 #![tactic(auto)]
 
 mod contexts;
+mod counts;
+mod found;
+mod judging;
 mod learning;
 mod letters;
 mod portion;
@@ -29,8 +33,10 @@ mod reach;
 mod searching;
 mod sources;
 mod telling;
-mod tracks;
 mod values;
 
-pub use searching::text_of;
-pub use sources::{ClaimValues, of_certified, of_tracked};
+pub use counts::{Counts, reduced};
+pub use found::{FoundPresentation, Unpresented, accepted};
+pub use judging::present_claim;
+pub use sources::{ClaimValues, of_certified};
+pub use values::{Value, ValueTable};

@@ -1,5 +1,6 @@
 //! The portion up to where outcomes surely repeat along each letter.
-use crate::reach::{Track, cycle_of, multiple};
+use crate::counts::small;
+use crate::reach::{cycle_of, multiple};
 use crate::values::{Value, ValueTable};
 use normal_forms::{Exponents, Rule};
 use presentation_drafts::{ONE, exponent, is_reducible_at, last_letter, lengthened};
@@ -14,7 +15,7 @@ const MOST_WORDS: usize = 2_000_000;
 const LARGEST: u16 = 4096;
 
 /// The number, and not more than the largest one of a cycle.
-fn small(number: u32) -> u16 {
+fn cycle_number(number: u32) -> u16 {
     u16::try_from(number).unwrap_or(LARGEST).min(LARGEST)
 }
 
@@ -29,19 +30,17 @@ fn cycle_along<A: Allocator>(
     for rule in rules.iter() {
         start = start.max(exponent(&rule.left, letter) as u32);
     }
-    let mut far = 0u32;
-    for track in [Track::First, Track::Second].iter() {
-        let fold = track.fold(values);
-        if track.counts(value).apart() > 0 {
-            period = multiple(period, fold.modulus);
-            let corner = fold.from_down.saturating_add(fold.from_up);
-            let tops = fold.top_down.saturating_add(fold.top_up);
-            far = far.max(corner.saturating_add(tops).saturating_add(fold.step));
-        }
+    let fold = values.fold;
+    let mut far = 0usize;
+    if value.counts.apart() > 0 {
+        period = multiple(period, small(fold.modulus));
+        let corner = fold.down.saturating_add(fold.up);
+        let tops = fold.down_top.saturating_add(fold.up_top);
+        far = corner.saturating_add(tops).saturating_add(fold.step);
     }
     LetterCycle {
-        start: small(start.saturating_add(far.saturating_mul(2))),
-        period: small(period).max(1),
+        start: cycle_number(start.saturating_add(small(far).saturating_mul(2))),
+        period: cycle_number(period).max(1),
     }
 }
 

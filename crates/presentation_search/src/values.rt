@@ -1,37 +1,30 @@
 //! Values of positions: what a claim tells of them.
-use crate::tracks::{TrackCounts, added, place};
-use running_pairs::byte;
+use crate::counts::{Counts, added, place};
+use running_pairs::{Fold, byte};
 use std::alloc::Allocator;
-use tracked_claims::Fold;
 
-/// The value of a position: its element, and its counts on two tracks, from which steps were taken.
+/// The value of a position: its element, and its counts, from which steps were taken.
 #[derive(Clone, Copy, PartialEq, Eq)]
 pub struct Value {
     pub element: u16,
-    pub first: TrackCounts,
-    pub second: TrackCounts,
+    pub counts: Counts,
 }
 
 impl Value {
     /// The value of no heap.
     pub const ONE: Value = Value {
         element: 0,
-        first: TrackCounts::NONE,
-        second: TrackCounts::NONE,
+        counts: Counts::NONE,
     };
 }
 
-/// How values are multiplied, and which are P: a table, one element's row after another, the folds of two tracks, and
-/// for each element and each place whether it is P.
+/// How values are multiplied, and which are P: a table, one element's row after another, the fold of the counts, and for
+/// each element and each place whether it is P.
 #[derive(Drop)]
 pub struct ValueTable<A: Allocator> {
     pub order: usize,
     pub rows: Vec<u16, A>,
-    pub first: Fold,
-    pub second: Fold,
-    /// How many places the second track has, and both together.
-    pub beside: usize,
-    pub places: usize,
+    pub fold: Fold,
     pub inside: Vec<u8, A>,
 }
 
@@ -53,25 +46,21 @@ impl<A: Allocator> ValueTable<A> {
     pub fn times(&self, one: Value, other: Value) -> Value {
         Value {
             element: self.times_elements(one.element, other.element),
-            first: added(self.first, one.first, other.first),
-            second: added(self.second, one.second, other.second),
+            counts: added(self.fold, one.counts, other.counts),
         }
     }
 
     /// Whether something is counted beside the elements.
     pub fn is_counting(&self) -> bool {
-        self.places > 1
+        self.fold.places() > 1
     }
 
     /// Whether a value is P.
     #[inline]
     pub fn is_p(&self, value: Value) -> bool {
-        let place = place(self.first, value.first)
-            .wrapping_mul(self.beside)
-            .wrapping_add(place(self.second, value.second));
         let to = (value.element as usize)
-            .wrapping_mul(self.places)
-            .wrapping_add(place);
+            .wrapping_mul(self.fold.places())
+            .wrapping_add(place(self.fold, value.counts));
         byte(&self.inside, to) == 1
     }
 

@@ -7,7 +7,7 @@ use Rattle.presented_text.specs.Said.{PresentedSaid, IsInRanges}
 use Rattle.presented_claims.specs.Claims.{claim_of}
 use Rattle.presented_claims.specs.Presents.{Presents}
 use Rattle.presented_forms.specs.Form.{IsInForm}
-use Rattle.infinite_answers.specs.Answers.{Why, Text, Law, Order, Outcome, Limit, Memory, Part, Idle, Undecided, Ray}
+use Rattle.infinite_answers.specs.Answers.{Why, Text, Law, Outcome, Limit, Memory, Part, Undecided, Finite}
 use Rattle.whole_presentations.specs.Unrolled.{unrolled, enough_heaps}
 use Rattle.whole_presentations.proofs.Lists.{all-before}
 use Rattle.whole_presentations.proofs.Whole.{presents, infinite, leaves, breaks}
@@ -44,14 +44,12 @@ module _ (c : PresentedSaid) (B : ℕ) where
   pub fits_too : (why : Why) → Fits (unrolled c B) why → Fits c why
   fits_too Text is = is
   fits_too Law is = is
-  fits_too Order is = is
   fits_too (Outcome code X) is = broken_too code X is
   fits_too Limit is = is
   fits_too Memory is = is
   fits_too (Part n) is = leaves c B n is
-  fits_too Idle is = is
   fits_too Undecided is = is
-  fits_too Ray is = is
+  fits_too Finite is = is
 
 -- ---- the presentation that is made, and the one that is told again
 

@@ -16,7 +16,7 @@ use Rattle.presented_forms.specs.Only.{IsLeast}
 use Rattle.class_checker.specs.Endless.{IsEndless}
 use Rattle.presented_tables.specs.Tested.{HasWord}
 use Rattle.presented_tables.specs.Faults.{LeavesOut}
-use Rattle.infinite_answers.specs.Answers.{Why, Text, Law, Order, Outcome, Limit, Memory, Part, Idle, Undecided, Ray}
+use Rattle.infinite_answers.specs.Answers.{Why, Text, Law, Outcome, Limit, Memory, Part, Undecided, Finite}
 
 -- There are so many elements: they can be numbered from 0 on.
 abbrev pub HasOrder : PresentedSaid → ℕ → Type 0
@@ -59,14 +59,12 @@ pub record IsBrokenAt (c : PresentedSaid) (code X : List ℕ) : Type 0 where
 abbrev pub Fits : PresentedSaid → Why → Type 0
 Fits c Text = ⊥
 Fits c Law = AreConvergent LETTERS c.relations → ⊥
-Fits c Order = ⊥
 Fits c (Outcome code X) = IsBrokenAt c code X
 Fits c Limit = Unit {0}
 Fits c Memory = Unit {0}
 Fits c (Part n) = LeavesOut c n
-Fits c Idle = ⊥
 Fits c Undecided = Unit {0}
-Fits c Ray = ⊥
+Fits c Finite = ⊥
 
 -- The refusal is true of the bytes: Text if they spell nothing, Memory at any time, and every other one of what they
 -- spell.

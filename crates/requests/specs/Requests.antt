@@ -27,7 +27,7 @@ pub data Request : Type 0 where
   Solve : List ℕ → SolveBounds → Request
   SolveMany : List (List ℕ) → SolveBounds → Request
   SolveLines : SolveBounds → Request
-  SolveInfinite : List ℕ → PartsBounds → Bool → Request
+  SolveInfinite : List ℕ → ℕ → Bool → Request
   Series : List ℕ → PartsBounds → Request
   Show : Option (List ℕ) → ℕ → Request
   Tail : Option (List ℕ) → ℕ → Request
@@ -43,10 +43,10 @@ pub data Request : Type 0 where
   Present : List ℕ → Request
   Catalogue : List ℕ → CatalogueRequest → ℕ → Request
   Desk : List ℕ → Request
-  Infinite : Option (List ℕ) → ℕ → Request
-  ShowInfinite : Option (List ℕ) → Layout → ℕ → Request
-  PlayInfinite : Option (List ℕ) → List ℕ → ℕ → Request
-  PlayInfiniteLines : List ℕ → ℕ → Request
+  Infinite : Option (List ℕ) → Request
+  ShowInfinite : Option (List ℕ) → Layout → Request
+  PlayInfinite : Option (List ℕ) → List ℕ → Request
+  PlayInfiniteLines : List ℕ → Request
 
 -- what a task asks for
 abbrev pub catalogue_request_of : CatalogueTask → CatalogueRequest
@@ -66,7 +66,7 @@ request_of (plan.Verify file limit) = Verify (option_map (λ f. f.now) file) lim
 request_of (plan.Solve code bounds) = Solve code.now bounds
 request_of (plan.SolveMany codes bounds) = SolveMany (map (λ c. c.now) codes.items) bounds
 request_of (plan.SolveLines bounds) = SolveLines bounds
-request_of (plan.SolveInfinite code bounds presented) = SolveInfinite code.now bounds presented
+request_of (plan.SolveInfinite code heaps presented) = SolveInfinite code.now heaps presented
 request_of (plan.Series code bounds) = Series code.now bounds
 request_of (plan.Show file limit) = Show (option_map (λ f. f.now) file) limit
 request_of (plan.Tail file limit) = Tail (option_map (λ f. f.now) file) limit
@@ -89,9 +89,8 @@ request_of (plan.Present text) = Present text.now
 request_of (plan.Catalogue file asked limit) =
     Catalogue file.now (catalogue_request_of asked) limit
 request_of (plan.Desk script) = Desk script.now
-request_of (plan.Infinite file limit) = Infinite (option_map (λ f. f.now) file) limit
-request_of (plan.ShowInfinite file layout limit) =
-    ShowInfinite (option_map (λ f. f.now) file) layout limit
-request_of (plan.PlayInfinite file position limit) =
-    PlayInfinite (option_map (λ f. f.now) file) position.now limit
-request_of (plan.PlayInfiniteLines file limit) = PlayInfiniteLines file.now limit
+request_of (plan.Infinite file) = Infinite (option_map (λ f. f.now) file)
+request_of (plan.ShowInfinite file layout) = ShowInfinite (option_map (λ f. f.now) file) layout
+request_of (plan.PlayInfinite file position) =
+    PlayInfinite (option_map (λ f. f.now) file) position.now
+request_of (plan.PlayInfiniteLines file) = PlayInfiniteLines file.now

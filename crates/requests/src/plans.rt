@@ -31,13 +31,12 @@ pub struct SolveBounds {
     pub tells_why: bool,
 }
 
-/// How far the parts of a game are looked at, one after another: in a series, or in a search for an
-/// infinite quotient.
+/// How far the parts of a game are looked at, one after another.
 #[derive(Clone, Copy, Debug, PartialEq, Eq)]
 pub struct PartsBounds {
     /// How many members the closure of each check may ever keep.
     pub limit: u32,
-    /// The most elements that a quotient may have, or a certificate beside its tracks.
+    /// The most elements that a quotient may have.
     pub order: u32,
     /// The last heap.
     pub heaps: u32,
@@ -53,7 +52,7 @@ pub enum Plan<'a> {
         limit: u32,
     },
     /// Judge the text in the file, or on standard input where no file is named, by its first word: a
-    /// certificate, one of an infinite quotient or one of a whole game.
+    /// certificate, a presentation or a text of a whole game.
     Verify {
         file: Option<&'a str>,
         limit: u32,
@@ -72,11 +71,12 @@ pub enum Plan<'a> {
     SolveLines {
         bounds: SolveBounds,
     },
-    /// Look for a part of the code's game, the heaps 1 to some n, of which a certificate shows that its
-    /// quotient is infinite; or, if it is to be presented, of which a presentation is right.
+    /// Look among the first heaps of the code's game for a text of the whole game, unless only a
+    /// presentation is wanted, or else for a presentation of a part whose quotient is infinite: of the
+    /// heaps 1 to some n.
     SolveInfinite {
         code: &'a str,
-        bounds: PartsBounds,
+        heaps: u32,
         presented: bool,
     },
     /// Print how many elements the quotients of the first heaps of a code have.
@@ -170,31 +170,25 @@ pub enum Plan<'a> {
     Desk {
         script: &'a str,
     },
-    /// Check the certificate of an infinite quotient in the file, or on standard input where no file
-    /// is named, and keep at most so many pairs.
+    /// Check the text of an infinite quotient in the file, or on standard input where no file is named.
     Infinite {
         file: Option<&'a str>,
-        limit: u32,
     },
-    /// Print the infinite quotient that the file certifies under the limit, or standard input where no
-    /// file is named.
+    /// Print the infinite quotient that the file gives, or standard input where no file is named.
     ShowInfinite {
         file: Option<&'a str>,
         layout: Layout,
-        limit: u32,
     },
-    /// Answer in a position by the infinite quotient that the file certifies under the limit, or
-    /// standard input where no file is named.
+    /// Answer in a position by the infinite quotient that the file gives, or standard input where no
+    /// file is named.
     PlayInfinite {
         file: Option<&'a str>,
         position: &'a str,
-        limit: u32,
     },
     /// Answer in the position of each line of standard input by the infinite quotient that the file
-    /// certifies under the limit.
+    /// gives.
     PlayInfiniteLines {
         file: &'a str,
-        limit: u32,
     },
 }
 

@@ -1,9 +1,7 @@
--- What a search for a certificate of an infinite quotient says. This project's own.
-use Rattle.std.specs.Prelude.{◌≡◌, ◌≤◌, ℕ, Bool, true, false, List, ◌++◌, length, codes, decimal}
-use Rattle.requests.specs.declared.plans.PartsBounds.{PartsBounds}
-use Rattle.tracked_text.specs.Said.{Said}
-use Rattle.tracked_text.specs.Spelling.{Spells}
-use Rattle.infinite_answers.specs.Shown.{IsShown}
+-- What a search for an infinite quotient says. This project's own.
+use Rattle.std.specs.Prelude.{◌≡◌, ◌≤◌, ℕ, Bool, true, false, List, ◌++◌, None, codes, decimal}
+use Rattle.presented_text.specs.Spelling.{SpellsPresented}
+use Rattle.presented_checker.specs.Refused.{Kept, IsRight}
 use Rattle.dominance_finder.specs.Whole.{IsWholeOf}
 use Rattle.infinite_finder.specs.declared.finding.Unfound.{Unfound}
 use Rattle.infinite_finder.specs.declared.finding.Unfound.TheVariants.{Finite, Shapes, Work, Refused}
@@ -19,16 +17,21 @@ reason_line (Work heap) =
     codes "gave up: to heap " ++ decimal heap ++ codes " the work that is allowed was done\n"
 reason_line Refused = codes "gave up: what was found was refused by the check\n"
 
--- A certificate with tracks speaks of no heap after the last that was to be looked at, and has no more
--- elements than are allowed.
-abbrev pub IsAllowed : PartsBounds → Said → Type 0
-IsAllowed bounds c = (length c.elements ≤ bounds.heaps) × (c.order ≤ bounds.order)
+-- The text is that of a presentation of the code: it is the misère quotient of its heaps, and infinite. They are those of
+-- a list, which goes no further than was to be looked at. Or it says why none was found, and nothing is claimed.
+pub data FindsPart (code : List ℕ) (heaps : ℕ) : List ℕ → Bool → Type 0 where
+  Presented : {text : List ℕ} (k : Kept) → SpellsPresented text k.said → IsRight k → k.order ≡ None
+      → k.said.code ≡ code → k.said.period ≡ 0 → k.said.heaps ≤ heaps → FindsPart code heaps text true
+  GaveUp : {text : List ℕ} (why : Unfound) → text ≡ reason_line why → FindsPart code heaps text false
 
--- The text is that of the whole game of the code, and what it says of each position is right. Or it is
--- that of a certificate with tracks of the code, and what it says is right. Both ways the misère quotient
--- of its heaps is infinite. Or it says why none was found, and nothing is claimed.
-pub data Finds (code : List ℕ) (bounds : PartsBounds) : List ℕ → Bool → Type 0 where
-  FoundWhole : {text : List ℕ} → IsWholeOf code text → Finds code bounds text true
-  Found : {text : List ℕ} (c : Said) → Spells text c → IsShown c → c.code ≡ code
-      → IsAllowed bounds c → Finds code bounds text true
-  GaveUp : {text : List ℕ} (why : Unfound) → text ≡ reason_line why → Finds code bounds text false
+-- The text is that of the whole game of the code, and what it says of each position is right; or else it is what is found of
+-- a part.
+pub data Finds (code : List ℕ) (heaps : ℕ) : List ℕ → Bool → Type 0 where
+  FoundWhole : {text : List ℕ} → IsWholeOf code text → Finds code heaps text true
+  FoundPart : {text : List ℕ} {succeeds : Bool} → FindsPart code heaps text succeeds
+      → Finds code heaps text succeeds
+
+-- what is found of a code; presented, if that is asked for
+abbrev pub FindsAsked : List ℕ → ℕ → Bool → List ℕ → Bool → Type 0
+FindsAsked code heaps true text succeeds = FindsPart code heaps text succeeds
+FindsAsked code heaps false text succeeds = Finds code heaps text succeeds

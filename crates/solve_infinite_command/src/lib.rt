@@ -1,8 +1,6 @@
-//! `solve --infinite`: a part of a game that has no finite quotient, by the certificate that shows it, or by its
-//! presentation.
+//! `solve --infinite`: the whole game of a code whose quotient is infinite, or the presentation of a part's quotient.
 #![tactic(auto)]
 
-mod presenting;
 mod reasons;
 mod saying;
 

@@ -1,4 +1,4 @@
-//! Why a search for a certificate of an infinite quotient was given up.
+//! Why a search for an infinite quotient was given up.
 ghost use Rattle.std.specs.Prelude.{◌≡◌, IfOk, string_bytes};
 ghost use Rattle.solve_infinite_command.specs.Found.{reason_line};
 

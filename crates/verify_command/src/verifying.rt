@@ -1,26 +1,19 @@
 //! `verify`: the verdict on a text of any kind.
-ghost use Rattle.std.specs.Prelude.{◌≡◌, ◌↔◌, ◌++◌, ℕ, List, codes, false, IfOk, IfErr, IsTrue, is_none, is_some, option_map};
+ghost use Rattle.std.specs.Prelude.{◌≡◌, false, IfOk, IfErr, is_none, is_some, option_map};
 ghost use Rattle.check_command.specs.Checks.{AreGiven, IsGivenCause, SaysVerdict, failed};
-ghost use Rattle.verify_command.specs.Verifies.{BeginsInfinite, SaysOfAny, Verifies};
+ghost use Rattle.verify_command.specs.Verifies.{SaysOfAny, Verifies};
 
 use allocation::Memory;
 use check_command::{fronts_decide, given_bytes};
 use checker::{Checker, verdicts_are_true};
 use command_results::{Said, Stop};
 use folders::Folder;
-use given_quotients::begins_presented;
+use given_quotients::{begins_presented, begins_whole};
 use infinite_command::said_of_bytes;
 use presented_command::presented_said;
 use std::alloc::Global;
 use streams::Source;
 use verdict_texts::checked_bytes;
-
-/// Whether the bytes begin as the texts of infinite quotients do, of some heaps or of a whole game.
-fn begins_infinite(bytes: &[u8]) -> bool
-    ensures { IsTrue result ↔ BeginsInfinite bytes.now }
-{
-    bytes.starts_with(b"mqi ") || bytes.starts_with(b"mqw ")
-}
 
 /// What `check` says of the bytes.
 fn finite_said(alloc: Global, bytes: &[u8], limit: u32) -> Result<Said, Memory>
@@ -38,8 +31,8 @@ fn finite_said(alloc: Global, bytes: &[u8], limit: u32) -> Result<Said, Memory>
 fn said(alloc: Global, bytes: &[u8], limit: u32) -> Result<Said, Memory>
     ensures { IfOk result (λ s. SaysOfAny bytes.now limit s.text.items s.succeeds) }
 {
-    if begins_infinite(bytes) {
-        return said_of_bytes(alloc, bytes, limit);
+    if begins_whole(bytes) {
+        return said_of_bytes(alloc, bytes);
     }
     if begins_presented(bytes) {
         return presented_said(alloc, bytes);
@@ -48,7 +41,7 @@ fn said(alloc: Global, bytes: &[u8], limit: u32) -> Result<Said, Memory>
 }
 
 /// Judges the text in the file, or on standard input where no file is named, by its first word: says of
-/// a text `mqi` or `mqw` what `infinite` says, of a presentation, `mqp`, whether it is right, and of every other
+/// a text of a whole game, `mqw`, what `infinite` says, of a presentation, `mqp`, whether it is right, and of every other
 /// text what `check` says. Whichever of the two isn't read is left alone.
 pub fn verify<'a, F: Folder, S: Source>(
     alloc: Global,

@@ -18,11 +18,8 @@ pub(crate) const ELEMENTS: u32 = 64;
 /// The same of a deep search.
 pub(crate) const MOST_BY_FEW: u32 = 256;
 
-/// The same of a search for an infinite quotient, as of any.
-pub(crate) const MOST_ELEMENTS: u32 = 4096;
-
-/// The last heap up to which such a search goes, where nobody asks for more or less.
-pub(crate) const INFINITE_HEAPS: u32 = 64;
+/// The last heap up to which a search for an infinite quotient goes, where nobody asks for more or less.
+pub const INFINITE_HEAPS: u32 = 64;
 
 /// As many bytes are room for any certificate.
 pub(crate) const MOST_BYTES: usize = 1 << 22;

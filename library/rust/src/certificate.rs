@@ -83,21 +83,21 @@ pub(crate) fn read(bytes: &[u8]) -> Option<Certificate> {
     })
 }
 
-/// What a text of an infinite quotient, or a presentation, says of its heaps; none of a text that is no certificate. One of a whole game
-/// speaks of all. A heap that is left out is a minus in the line of the heaps' elements or words.
+/// What a text of a whole game, or a presentation, says of its heaps; none of a text that is none. One of a whole game speaks of all. A heap
+/// that a presentation leaves out is a minus in the line of the heaps' words.
 pub(crate) fn read_part(bytes: &[u8]) -> Option<Part> {
     let text = std::str::from_utf8(bytes).ok()?;
     let code = lines(text, "code").next()?.collect();
     if text.starts_with("mqw ") {
         return Some(Part { code, last_heap: None, without: Vec::new() });
     }
-    let listed = lines(text, if text.starts_with("mqp ") { "words" } else { "phi" }).next()?;
+    let words = lines(text, "words").next()?;
     let mut heaps = lines(text, "heaps").next()?;
     let last = heaps.next()?.parse().ok()?;
     Some(Part {
         code,
         // (behind it a presentation of a whole game has its period)
         last_heap: heaps.next().is_none().then_some(last),
-        without: (1..).zip(listed).filter(|(_, element)| *element == "-").map(|(heap, _)| heap).collect(),
+        without: (1..).zip(words).filter(|(_, word)| *word == "-").map(|(heap, _)| heap).collect(),
     })
 }

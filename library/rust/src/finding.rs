@@ -1,6 +1,6 @@
 //! How far a search for a quotient goes.
 
-use crate::bounds::{ELEMENTS, HEAPS, INFINITE_HEAPS, LIMIT, MOST_BY_FEW, MOST_ELEMENTS, MOST_HEAPS, ROUNDS};
+use crate::bounds::{ELEMENTS, HEAPS, LIMIT, MOST_BY_FEW, MOST_HEAPS, ROUNDS};
 use crate::refusal::Refusal;
 use std::fmt;
 
@@ -41,23 +41,6 @@ impl Bounds {
 impl Default for Bounds {
     fn default() -> Bounds {
         Bounds { limit: LIMIT, rounds: ROUNDS, aim: Aim::Whole(HEAPS), order: ELEMENTS }
-    }
-}
-
-/// How far a search for an infinite quotient goes.
-#[derive(Clone, Copy, Debug)]
-pub struct InfiniteBounds {
-    /// What the closure of each check may keep, 1 to 1000000.
-    pub limit: u32,
-    /// The last heap of the largest part that is looked at, 1 to 1024.
-    pub heaps: u32,
-    /// The most elements that a certificate may have beside its tracks, 2 to 4096.
-    pub order: u32,
-}
-
-impl Default for InfiniteBounds {
-    fn default() -> InfiniteBounds {
-        InfiniteBounds { limit: LIMIT, heaps: INFINITE_HEAPS, order: MOST_ELEMENTS }
     }
 }
 

@@ -1,9 +1,9 @@
 //! A certified infinite quotient, or one that is presented, and what it is asked.
 
 use crate::answers::{Answer, Outcome};
-use crate::bounds::{LIMIT, MOST_BYTES};
+use crate::bounds::MOST_BYTES;
 use crate::certificate::{Part, read_part};
-use crate::finding::{InfiniteBounds, NotFound};
+use crate::finding::NotFound;
 use crate::opened::{Infinite, Opened};
 use crate::quotient::{USUAL, last_line, status_and_told, told_by};
 use crate::raw;
@@ -22,12 +22,12 @@ pub enum InfiniteOutput {
     Json = 3,
 }
 
-/// A certified infinite misère quotient: the outcomes of all positions of some heaps of a game, or of all its positions, which no finite
-/// quotient predicts. Or one that generators and relations present, which may be finite: [`order`](InfiniteQuotient::order) says so. It is made
-/// by a check alone, and doesn't change.
+/// A certified infinite misère quotient: the outcomes of all positions of a whole game, or of some of its heaps, which no finite quotient
+/// predicts. One that generators and relations present may be finite: [`order`](InfiniteQuotient::order) says so. It is made by a check alone,
+/// and doesn't change.
 ///
-/// A game may have several certificates, with other heaps or monoids. They never contradict each other. What is said of threads, clones
-/// and drops of a [`Quotient`](crate::Quotient) holds of these.
+/// A game may have several texts, of other heaps. They never contradict each other. What is said of threads, clones and drops of a
+/// [`Quotient`](crate::Quotient) holds of these.
 #[derive(Clone)]
 pub struct InfiniteQuotient {
     opened: Opened<Infinite>,
@@ -36,35 +36,34 @@ pub struct InfiniteQuotient {
 }
 
 impl InfiniteQuotient {
-    /// The infinite quotient that the certificate is of, which begins with `mqi 1`, or with `mqw 1` if it is of a whole game; or the quotient that
-    /// a presentation is, which begins with `mqp 1`. [`LIMIT`] is the limit where nobody asks for more or less.
-    pub fn check(bytes: impl AsRef<[u8]>, limit: u32) -> Result<InfiniteQuotient, Refusal> {
+    /// The infinite quotient that a text of a whole game is of, which begins with `mqw 1`; or the quotient that a presentation is, which
+    /// begins with `mqp 1`.
+    pub fn check(bytes: impl AsRef<[u8]>) -> Result<InfiniteQuotient, Refusal> {
         let bytes: Arc<[u8]> = bytes.as_ref().into();
-        let opened = Opened::check(&bytes, limit)?;
+        let opened = Opened::<Infinite>::check(&bytes)?;
         let part = read_part(&bytes).ok_or(Refusal::TEXT)?;
         Ok(InfiniteQuotient { opened, bytes, part: Arc::new(part) })
     }
 
-    /// An infinite quotient of the game of a code, such as `0.26`: that of the whole game, if its text is found, or else that of the heaps 1
-    /// to some heap up to `bounds.heaps`; or why none was found. Some searches take a minute.
-    pub fn solve(code: &str, bounds: InfiniteBounds) -> Result<InfiniteQuotient, NotFound> {
-        InfiniteQuotient::found(code, bounds, raw::misere_solve_infinite)
+    /// An infinite quotient of the game of a code, such as `0.26`: that of the whole game, if its text is found, or else that of some of the
+    /// heaps 1 to `heaps`, by generators and relations; or why none was found. The heaps are 1 to 1024, and
+    /// [`INFINITE_HEAPS`](crate::INFINITE_HEAPS) where nobody asks for more or less. Some searches take minutes.
+    pub fn solve(code: &str, heaps: u32) -> Result<InfiniteQuotient, NotFound> {
+        InfiniteQuotient::found(code, heaps, raw::misere_solve_infinite)
     }
 
-    /// An infinite quotient of the heaps 1 to some heap up to `bounds.heaps`, by generators and relations; or why none was found. Some searches
-    /// take a minute.
-    pub fn solve_presented(code: &str, bounds: InfiniteBounds) -> Result<InfiniteQuotient, NotFound> {
-        InfiniteQuotient::found(code, bounds, raw::misere_solve_presented)
+    /// The same without a look for a text of the whole game.
+    pub fn solve_presented(code: &str, heaps: u32) -> Result<InfiniteQuotient, NotFound> {
+        InfiniteQuotient::found(code, heaps, raw::misere_solve_presented)
     }
 
-    fn found(code: &str, bounds: InfiniteBounds, call: raw::SolveInfinite) -> Result<InfiniteQuotient, NotFound> {
-        let InfiniteBounds { limit, heaps, order } = bounds;
+    fn found(code: &str, heaps: u32, call: raw::SolveInfinite) -> Result<InfiniteQuotient, NotFound> {
         let (status, told) = status_and_told(MOST_BYTES, |told, count| {
             // SAFETY: each pointer stands with the length of its slice, and `count` is borrowed for the call.
-            unsafe { call(code.as_ptr(), code.len(), limit, heaps, order, told.as_mut_ptr(), told.len(), count) }
+            unsafe { call(code.as_ptr(), code.len(), heaps, told.as_mut_ptr(), told.len(), count) }
         });
         match Refusal(status) {
-            Refusal(0) => Ok(InfiniteQuotient::check(told, limit)?),
+            Refusal(0) => Ok(InfiniteQuotient::check(told)?),
             Refusal::GAVE_UP => Err(NotFound::GaveUp { why: last_line(&told).trim_start_matches("gave up: ").to_owned() }),
             refusal => Err(NotFound::Refused(refusal)),
         }
@@ -95,20 +94,19 @@ impl InfiniteQuotient {
         &self.part.without
     }
 
-    /// How many elements a presented quotient has; none if it is infinite, as that of each other text is.
+    /// How many elements a presented quotient has; none if it is infinite, as that of each whole game is.
     pub fn order(&self) -> Result<Option<u64>, Refusal> {
         Ok(Some(self.opened.order()?).filter(|order| *order > 0))
     }
 
     /// The element of a position by a presentation, as a word in its letters, such as `ab^2`, or `1`. Two positions are indistinguishable
-    /// exactly if these are equal. By another text it is refused, with 16.
+    /// exactly if these are equal. By a text of a whole game it is refused, with 16.
     pub fn value(&self, heaps: &[u64]) -> Result<String, Refusal> {
         let text = told_by(USUAL, |told, count| self.opened.value(heaps, told, count))?;
         Ok(String::from_utf8_lossy(&text).into_owned())
     }
 
-    /// Its monoid, tracks and regions, and the positions that show that the quotient is infinite, with their outcomes; of a presentation its
-    /// generators, relations, portion and words. That of a whole game, `mqw`, is refused, with 16.
+    /// The generators, relations, portion and words of a presentation. By a text of a whole game it is refused, with 16.
     pub fn describe(&self, output: InfiniteOutput) -> Result<String, Refusal> {
         let text = told_by(USUAL, |told, count| self.opened.describe(output as u32, told, count))?;
         Ok(String::from_utf8_lossy(&text).into_owned())
@@ -154,6 +152,6 @@ impl TryFrom<&[u8]> for InfiniteQuotient {
     type Error = Refusal;
 
     fn try_from(bytes: &[u8]) -> Result<InfiniteQuotient, Refusal> {
-        InfiniteQuotient::check(bytes, LIMIT)
+        InfiniteQuotient::check(bytes)
     }
 }

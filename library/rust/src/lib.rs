@@ -14,7 +14,7 @@
 //! partial certificate: of its heaps). [`Quotient::phi`], [`Quotient::portion`] and [`Quotient::table`] are read off the certificate's
 //! text, which a yes makes the misère quotient.
 //!
-//! A game whose quotient is infinite may have certificates too: [`InfiniteQuotient`] tells what they say.
+//! [`InfiniteQuotient`] tells what texts of whole games and presentations say, whose quotients may be infinite.
 //!
 //! The certificate is checked once, and the library keeps the quotient until its last clone is dropped. A [`Quotient`] is sent from thread
 //! to thread, and each thread that asks at the same time has a clone.
@@ -33,8 +33,8 @@ mod raw;
 mod refusal;
 
 pub use answers::{Answer, Outcome};
-pub use bounds::LIMIT;
-pub use finding::{Aim, Bounds, InfiniteBounds, NotFound};
+pub use bounds::{INFINITE_HEAPS, LIMIT};
+pub use finding::{Aim, Bounds, NotFound};
 pub use infinite::{InfiniteOutput, InfiniteQuotient};
 pub use own::{NotCertified, OwnTable};
 pub use quotient::{Output, Quotient};
@@ -51,21 +51,21 @@ pub fn version() -> u32 {
 
 /// The heaps of a position at which the rule of the code's game fails, if the bytes are refused for that.
 pub fn failure(bytes: &[u8], limit: u32) -> Option<Vec<u64>> {
-    failing(raw::misere_failure, bytes, limit)
+    // SAFETY: each pointer stands with the length of its slice, and `count` is borrowed for the call.
+    failing(|told, count| unsafe { raw::misere_failure(bytes.as_ptr(), bytes.len(), limit, told.as_mut_ptr(), told.len(), count) })
 }
 
-/// The same of a certificate of an infinite quotient.
-pub fn infinite_failure(bytes: &[u8], limit: u32) -> Option<Vec<u64>> {
-    failing(raw::misere_infinite_failure, bytes, limit)
+/// The same of a text of a whole game, or of a presentation.
+pub fn infinite_failure(bytes: &[u8]) -> Option<Vec<u64>> {
+    // SAFETY: as above.
+    failing(|told, count| unsafe { raw::misere_infinite_failure(bytes.as_ptr(), bytes.len(), told.as_mut_ptr(), told.len(), count) })
 }
 
-fn failing(call: raw::Failure, bytes: &[u8], limit: u32) -> Option<Vec<u64>> {
+fn failing(call: impl Fn(&mut [u64], &mut u64) -> u32) -> Option<Vec<u64>> {
     let mut told = vec![0; USUAL_HEAPS];
     loop {
         let (room, mut count) = (told.len(), 0);
-        // SAFETY: each pointer stands with the length of its slice, and `count` is borrowed for the call.
-        let status = unsafe { call(bytes.as_ptr(), bytes.len(), limit, told.as_mut_ptr(), room, &mut count) };
-        if Refusal(status) != Refusal::OUTCOME {
+        if Refusal(call(&mut told, &mut count)) != Refusal::OUTCOME {
             return None;
         }
         told.resize(count as usize, 0);

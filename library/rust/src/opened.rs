@@ -8,7 +8,6 @@ use std::marker::PhantomData;
 
 /// The calls on opened quotients of a kind.
 pub(crate) struct Calls {
-    open: raw::Open,
     share: raw::Share,
     close: raw::Close,
     outcome: raw::OneOpened<u32>,
@@ -27,7 +26,6 @@ pub(crate) struct Finite;
 
 impl Kind for Finite {
     const CALLS: Calls = Calls {
-        open: raw::misere_open,
         share: raw::misere_share,
         close: raw::misere_close,
         outcome: raw::misere_opened_outcome,
@@ -37,12 +35,11 @@ impl Kind for Finite {
     };
 }
 
-/// Infinite quotients.
+/// Infinite quotients, and those that are presented.
 pub(crate) struct Infinite;
 
 impl Kind for Infinite {
     const CALLS: Calls = Calls {
-        open: raw::misere_infinite_open,
         share: raw::misere_infinite_share,
         close: raw::misere_infinite_close,
         outcome: raw::misere_infinite_outcome,
@@ -64,14 +61,6 @@ unsafe impl<K: Kind> Send for Opened<K> {}
 impl<K: Kind> Opened<K> {
     fn closed() -> Opened<K> {
         Opened(UnsafeCell::new(raw::Opened::CLOSED), PhantomData)
-    }
-
-    /// An owner of what the bytes certify, or the refusal.
-    pub fn check(bytes: &[u8], limit: u32) -> Result<Opened<K>, Refusal> {
-        let mut opened = Opened::closed();
-        // SAFETY: the pointer and the length are those of one slice, and the owner is borrowed for the call.
-        let status = unsafe { (K::CALLS.open)(bytes.as_ptr(), bytes.len(), limit, opened.0.get_mut()) };
-        done(status, opened)
     }
 
     /// Another owner of the same quotient. It is refused if memory is.
@@ -128,6 +117,14 @@ impl<K: Kind> Opened<K> {
 }
 
 impl Opened<Finite> {
+    /// An owner of what the bytes certify, or the refusal.
+    pub fn check(bytes: &[u8], limit: u32) -> Result<Opened<Finite>, Refusal> {
+        let mut opened = Opened::closed();
+        // SAFETY: the pointer and the length are those of one slice, and the owner is borrowed for the call.
+        let status = unsafe { raw::misere_open(bytes.as_ptr(), bytes.len(), limit, opened.0.get_mut()) };
+        done(status, opened)
+    }
+
     pub fn value(&self, heaps: &[u64]) -> Result<u32, Refusal> {
         self.asked(raw::misere_opened_value, heaps)
     }
@@ -143,6 +140,14 @@ impl Opened<Finite> {
 }
 
 impl Opened<Infinite> {
+    /// An owner of what the bytes show, or the refusal.
+    pub fn check(bytes: &[u8]) -> Result<Opened<Infinite>, Refusal> {
+        let mut opened = Opened::closed();
+        // SAFETY: the pointer and the length are those of one slice, and the owner is borrowed for the call.
+        let status = unsafe { raw::misere_infinite_open(bytes.as_ptr(), bytes.len(), opened.0.get_mut()) };
+        done(status, opened)
+    }
+
     pub fn describe(&self, output: u32, told: &mut [u8], count: &mut u64) -> u32 {
         // SAFETY: the pointer stands with the length of its slice, and the rest is borrowed for the call.
         unsafe { raw::misere_infinite_describe(self.alone(), output, told.as_mut_ptr(), told.len(), count) }

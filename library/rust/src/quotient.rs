@@ -52,7 +52,7 @@ impl Quotient {
     /// The quotient that the certificate is of. [`LIMIT`] is the limit where nobody asks for more or less.
     pub fn check(bytes: impl AsRef<[u8]>, limit: u32) -> Result<Quotient, Refusal> {
         let bytes: Arc<[u8]> = bytes.as_ref().into();
-        let opened = Opened::check(&bytes, limit)?;
+        let opened = Opened::<Finite>::check(&bytes, limit)?;
         let certificate = read(&bytes).ok_or(Refusal::TEXT)?;
         Ok(Quotient { opened, bytes, certificate: Arc::new(certificate) })
     }

@@ -27,12 +27,10 @@ impl Opened {
     pub const CLOSED: Opened = Opened { full: 0, kept: null_mut() };
 }
 
-pub type Open = unsafe extern "C" fn(*const u8, usize, u32, &mut Opened) -> u32;
 pub type Share = unsafe extern "C" fn(&mut Opened, &mut Opened) -> u32;
 pub type Close = unsafe extern "C" fn(&mut Opened) -> u32;
 pub type OneSorted = unsafe extern "C" fn(&mut Opened, *mut u64, usize, &mut Told) -> u32;
-pub type SolveInfinite = unsafe extern "C" fn(*const u8, usize, u32, u32, u32, *mut u8, usize, &mut u64) -> u32;
-pub type Failure = unsafe extern "C" fn(*const u8, usize, u32, *mut u64, usize, &mut u64) -> u32;
+pub type SolveInfinite = unsafe extern "C" fn(*const u8, usize, u32, *mut u8, usize, &mut u64) -> u32;
 pub type OneOpened<T> = unsafe extern "C" fn(&mut Opened, *const u64, usize, &mut T) -> u32;
 pub type ManyOpened<T> = unsafe extern "C" fn(&mut Opened, *const u64, usize, *const u64, usize, *mut T, usize) -> u32;
 
@@ -100,26 +98,8 @@ unsafe extern "C" {
         room: usize,
         count: &mut u64,
     ) -> u32;
-    pub fn misere_solve_infinite(
-        code: *const u8,
-        length: usize,
-        limit: u32,
-        heaps: u32,
-        order: u32,
-        told: *mut u8,
-        room: usize,
-        count: &mut u64,
-    ) -> u32;
-    pub fn misere_solve_presented(
-        code: *const u8,
-        length: usize,
-        limit: u32,
-        heaps: u32,
-        order: u32,
-        told: *mut u8,
-        room: usize,
-        count: &mut u64,
-    ) -> u32;
+    pub fn misere_solve_infinite(code: *const u8, length: usize, heaps: u32, told: *mut u8, room: usize, count: &mut u64) -> u32;
+    pub fn misere_solve_presented(code: *const u8, length: usize, heaps: u32, told: *mut u8, room: usize, count: &mut u64) -> u32;
     pub fn misere_certify(table: *const u8, length: usize, limit: u32, told: *mut u8, room: usize, count: &mut u64) -> u32;
     pub fn misere_describe(bytes: *const u8, length: usize, limit: u32, output: u32, form: u32, told: *mut u8, room: usize, count: &mut u64) -> u32;
     pub fn misere_open(bytes: *const u8, length: usize, limit: u32, told: &mut Opened) -> u32;
@@ -156,9 +136,9 @@ unsafe extern "C" {
         room: usize,
     ) -> u32;
     pub fn misere_opened_describe(opened: &mut Opened, output: u32, form: u32, told: *mut u8, room: usize, count: &mut u64) -> u32;
-    pub fn misere_check_infinite(bytes: *const u8, length: usize, limit: u32) -> u32;
-    pub fn misere_infinite_failure(bytes: *const u8, length: usize, limit: u32, told: *mut u64, room: usize, count: &mut u64) -> u32;
-    pub fn misere_infinite_open(bytes: *const u8, length: usize, limit: u32, told: &mut Opened) -> u32;
+    pub fn misere_check_infinite(bytes: *const u8, length: usize) -> u32;
+    pub fn misere_infinite_failure(bytes: *const u8, length: usize, told: *mut u64, room: usize, count: &mut u64) -> u32;
+    pub fn misere_infinite_open(bytes: *const u8, length: usize, told: &mut Opened) -> u32;
     pub fn misere_infinite_share(opened: &mut Opened, told: &mut Opened) -> u32;
     pub fn misere_infinite_close(opened: &mut Opened) -> u32;
     pub fn misere_infinite_kind(opened: &mut Opened, told: &mut u64) -> u32;

@@ -2,7 +2,7 @@
 
 use std::fmt;
 
-/// Why a call told nothing. 1 to 9 are the checker's refusals, and 31 to 34 those of infinite quotients beside these.
+/// Why a call told nothing. 1 to 9 are the checker's refusals, and 31 to 34 those of whole games and presentations beside these.
 #[derive(Clone, Copy, Debug, PartialEq, Eq)]
 pub struct Refusal(pub u32);
 
@@ -43,9 +43,8 @@ impl Refusal {
             17 => "NotOpen",
             23 => "Beyond",
             31 => "Part",
-            32 => "Idle",
             33 => "Undecided",
-            34 => "Ray",
+            34 => "Finite",
             _ => "Unknown",
         }
     }

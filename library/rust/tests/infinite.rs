@@ -1,6 +1,6 @@
-//! What the crate tells of samples of infinite quotients, beside the families of docs/INFINITE.md.
+//! What the crate tells of samples of whole games and presentations, beside the family of docs/INFINITE.md.
 
-use misere::{Answer, InfiniteBounds, InfiniteOutput, InfiniteQuotient, LIMIT, NotFound, Outcome, Quotient, Refusal};
+use misere::{Answer, INFINITE_HEAPS, InfiniteOutput, InfiniteQuotient, LIMIT, NotFound, Outcome, Quotient, Refusal};
 use std::path::Path;
 use std::thread;
 
@@ -12,7 +12,7 @@ fn sample(name: &str) -> Vec<u8> {
 }
 
 fn infinite(name: &str) -> InfiniteQuotient {
-    InfiniteQuotient::check(sample(name), LIMIT).unwrap()
+    InfiniteQuotient::check(sample(name)).unwrap()
 }
 
 /// So many heaps of each of these.
@@ -22,11 +22,11 @@ fn heaps(numbers: &[(u64, usize)]) -> Vec<u64> {
 
 #[test]
 fn it_says_of_which_heaps_it_speaks() {
-    let whole = infinite("0.354_heaps_5.mqi");
-    assert_eq!((whole.code(), whole.last_heap(), whole.without()), ("0.354", Some(5), [].as_slice()));
-    let part = infinite("0.07_heaps_34_without_33.mqi");
-    assert_eq!((part.code(), part.last_heap(), part.without()), ("0.07", Some(34), [33].as_slice()));
-    for (heap, told) in [(0, Refusal::NOT_A_HEAP), (33, Refusal::BEYOND), (35, Refusal::BEYOND)] {
+    let all = infinite("0.354_heaps_5.mqp");
+    assert_eq!((all.code(), all.last_heap(), all.without()), ("0.354", Some(5), [].as_slice()));
+    let part = infinite("../atlas/infinite/0.5e_heaps_17_without_16.mqp");
+    assert_eq!((part.code(), part.last_heap(), part.without()), ("0.5e", Some(17), [16].as_slice()));
+    for (heap, told) in [(0, Refusal::NOT_A_HEAP), (16, Refusal::BEYOND), (18, Refusal::BEYOND)] {
         assert_eq!((part.outcome(&[1, heap]), part.answer(&[1, heap])), (Err(told), Err(told)), "heap {heap}");
     }
 }
@@ -74,30 +74,22 @@ fn a_presentation_is_told_and_has_words() {
     let kayles = infinite("0.77.mqp");
     assert_eq!((kayles.last_heap(), kayles.order(), kayles.value(&[1000]).as_deref()), (None, Ok(Some(40)), Ok("ab^2")));
     assert_eq!(infinite("0.26.mqw").value(&[1]), Err(Refusal(16)));
-    assert_eq!(InfiniteQuotient::check(sample("refused/part_heap_left_out.mqp"), LIMIT), Err(Refusal(31)));
-    let found = InfiniteQuotient::solve_presented("0.404", InfiniteBounds::default()).unwrap();
-    assert_eq!(found, quotient);
+    assert_eq!(InfiniteQuotient::solve_presented("0.404", INFINITE_HEAPS).unwrap(), quotient);
 }
 
 #[test]
-fn families_are_told_as_they_are() {
-    let quotient = infinite("0.354_heaps_5.mqi");
+fn a_family_is_told_as_it_is() {
+    let quotient = infinite("0.354_heaps_5.mqp");
     for (twos, fives) in (1..9).flat_map(|j| (1..40).map(move |i| (j, i))) {
         let is_p = fives >= 3 * twos + 4 && (fives - 3 * twos) % 6 == 4;
         let told = quotient.outcome(&heaps(&[(4, 1), (2, twos), (5, fives)]));
         assert_eq!(told, Ok(if is_p { Outcome::P } else { Outcome::N }), "{twos} {fives}");
     }
-    let kayles = infinite("0.07_heaps_34_without_33.mqi");
-    for (j, k) in (1..9).flat_map(|j| (2..9).map(move |k| (j, k))) {
-        let is_p = k <= j && (j - k) % 2 == 0;
-        let told = kayles.outcome(&heaps(&[(25, 1), (30, j), (34, k)]));
-        assert_eq!(told, Ok(if is_p { Outcome::P } else { Outcome::N }), "{j} {k}");
-    }
 }
 
 #[test]
 fn many_are_told_as_one_by_one() {
-    let quotient = infinite("0.354_heaps_5.mqi");
+    let quotient = infinite("0.354_heaps_5.mqp");
     let wins = heaps(&[(5, 8), (4, 1), (2, 1)]);
     let lost = heaps(&[(2, 1), (4, 1), (5, 7)]);
     let positions: [&[u64]; 4] = [&[], &[1], &wins, &lost];
@@ -111,45 +103,40 @@ fn many_are_told_as_one_by_one() {
 
 #[test]
 fn each_output_is_a_text_of_its_own() {
-    let quotient = infinite("0.354_heaps_5.mqi");
+    let quotient = infinite("0.354_heaps_5.mqp");
     let told = |output| quotient.describe(output).unwrap();
-    assert!(told(InfiniteOutput::Json).starts_with("{\"code\":\"0.354\",\"last\":5,\"order\":12,\"elements\":[1,2,3,4,3],"));
+    assert!(told(InfiniteOutput::Json).starts_with("{\"code\":\"0.354\",\"kind\":\"presented\",\"heaps\":5,\"period\":0,\"order\":null,"));
     assert_ne!(told(InfiniteOutput::Description), told(InfiniteOutput::Latex));
 }
 
 #[test]
 fn refusals_have_their_numbers() {
-    let (finite, ray) = (sample("0.33.mqc"), sample("refused/ray_down_too_short.mqi"));
-    assert_eq!(InfiniteQuotient::check(&finite, LIMIT), Err(Refusal(1)));
-    assert_eq!(Quotient::check(sample("0.354_heaps_5.mqi"), LIMIT), Err(Refusal(1)));
-    assert_eq!(InfiniteQuotient::check(&ray, LIMIT).unwrap_err().to_string(), "34 Ray");
-    assert_eq!(InfiniteQuotient::check(sample("0.354_heaps_5.mqi"), 1), Err(Refusal(8)));
-    let outcome = sample("refused/outcome_at_two_and_three.mqi");
-    assert_eq!(InfiniteQuotient::check(&outcome, LIMIT), Err(Refusal::OUTCOME));
-    assert_eq!(misere::infinite_failure(&outcome, LIMIT), Some(vec![2, 3]));
-    assert_eq!(misere::infinite_failure(&ray, LIMIT), None);
+    let (finite, part) = (sample("0.33.mqc"), sample("refused/part_heap_left_out.mqp"));
+    assert_eq!(InfiniteQuotient::check(&finite), Err(Refusal::TEXT));
+    assert_eq!(Quotient::check(sample("0.354_heaps_5.mqp"), LIMIT), Err(Refusal::TEXT));
+    assert_eq!(InfiniteQuotient::check(&part).unwrap_err().to_string(), "31 Part");
+    let outcome = sample("refused/outcome_at_two_twos.mqp");
+    assert_eq!(InfiniteQuotient::check(&outcome), Err(Refusal::OUTCOME));
+    assert_eq!(misere::infinite_failure(&outcome), Some(vec![2, 2]));
+    assert_eq!(misere::infinite_failure(&part), None);
 }
 
 /// As `misere solve CODE --infinite` finds them.
 #[test]
 fn infinite_quotients_are_found() {
-    let bounds = InfiniteBounds::default();
-    let whole = InfiniteQuotient::solve("0.26", bounds).unwrap();
-    assert_eq!((whole.last_heap(), whole.certificate()), (None, sample("0.26.mqw").as_slice()));
-    let part = InfiniteQuotient::solve("0.404", bounds).unwrap();
-    assert_eq!((part.code(), part.last_heap(), part.without()), ("0.404", Some(12), [].as_slice()));
+    for (code, name) in [("0.26", "0.26.mqw"), ("0.404", "0.404_heaps_12.mqp")] {
+        assert_eq!(InfiniteQuotient::solve(code, INFINITE_HEAPS).unwrap(), infinite(name));
+    }
     let why = "each part to heap 8 seems to have a finite quotient".to_owned();
-    let few = InfiniteBounds { heaps: 8, ..bounds };
-    assert_eq!(InfiniteQuotient::solve("0.33", few), Err(NotFound::GaveUp { why }));
-    let none = InfiniteBounds { heaps: 0, ..bounds };
-    for (code, bounds, number) in [("0.33", none, 15), ("0.330", bounds, 12)] {
-        assert_eq!(InfiniteQuotient::solve(code, bounds), Err(NotFound::Refused(Refusal(number))));
+    assert_eq!(InfiniteQuotient::solve("0.33", 8), Err(NotFound::GaveUp { why }));
+    for (code, heaps, number) in [("0.33", 0, 15), ("0.330", INFINITE_HEAPS, 12)] {
+        assert_eq!(InfiniteQuotient::solve(code, heaps), Err(NotFound::Refused(Refusal(number))));
     }
 }
 
 #[test]
 fn each_thread_asks_a_clone() {
-    let quotient = infinite("0.354_heaps_5.mqi");
+    let quotient = infinite("0.354_heaps_5.mqp");
     let asked = |it: &InfiniteQuotient| (1..50).map(|fives| it.answer(&heaps(&[(4, 1), (2, 3), (5, fives)]))).collect::<Vec<_>>();
     let (alone, again) = (asked(&quotient), quotient.try_clone().unwrap());
     let threads: Vec<_> = (0..THREADS).map(|_| quotient.clone()).map(|it| thread::spawn(move || asked(&it))).collect();
@@ -157,5 +144,5 @@ fn each_thread_asks_a_clone() {
     for thread in threads {
         assert_eq!(thread.join().unwrap(), alone);
     }
-    assert_eq!((asked(&again), &again), (alone, &infinite("0.354_heaps_5.mqi")));
+    assert_eq!((asked(&again), &again), (alone, &infinite("0.354_heaps_5.mqp")));
 }

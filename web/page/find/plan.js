@@ -4,7 +4,7 @@ import {ELEMENTS, HEAPS, INFINITE_HEAPS, MOST_BY_FEW, MOST_ELEMENTS, MOST_HEAPS,
 import {codeOfName} from "../codes.js";
 
 /**
- * @typedef {{aim: "whole" | "part" | "furthest" | "infinite", heaps: number, order: number}} Search
+ * @typedef {{aim: "whole" | "part" | "furthest" | "infinite", heaps: number, order?: number}} Search
  * @typedef {{name: string, search: Search}} Step
  *
  * @typedef {object} Aim what may be sought
@@ -46,7 +46,7 @@ function furthest(order) {
  * @returns {Step}
  */
 function infinite(heaps) {
-  return {name: `infinite, to heap ${heaps}`, search: {aim: "infinite", heaps, order: MOST_ELEMENTS}};
+  return {name: `infinite, to heap ${heaps}`, search: {aim: "infinite", heaps}};
 }
 
 /**

@@ -3,7 +3,7 @@
 import {gameAddress} from "../address.js";
 import {fieldsOf, verdictOf} from "../certificate.js";
 import {fill, make} from "../dom.js";
-import {infiniteOf, infiniteVerdict, isInfinite} from "../infinite/fields.js";
+import {isPresented, presentedOf, presentedVerdict} from "../presented/fields.js";
 import {Failure} from "../prover.js";
 import {reasonOf, told} from "../refusals.js";
 import {isWhole, wholeOf, wholeVerdict} from "../whole/fields.js";
@@ -40,7 +40,8 @@ export async function search(page, {code, aim, number}, list) {
  */
 function readingOf(text) {
   if (isWhole(text)) return {verdict: wholeVerdict(wholeOf(text)), isLast: true};
-  if (isInfinite(text)) return {verdict: infiniteVerdict(infiniteOf(text)), isLast: true};
+  // (a search finds presentations of infinite quotients alone)
+  if (isPresented(text)) return {verdict: presentedVerdict(presentedOf(text), null), isLast: true};
   const certificate = fieldsOf(text);
   return {verdict: verdictOf(certificate).replace("yes ", ""), isLast: certificate.period > 0};
 }

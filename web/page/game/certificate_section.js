@@ -15,8 +15,8 @@ const FORMS = {
   singular: "for Singular",
   gap: "for GAP"
 };
-/** Those of an infinite quotient and of a presentation. */
-const INFINITE_FORMS = /** @type {const} */ (["description", "latex", "json"]);
+/** Those of a presentation. */
+const PRESENTED_FORMS = /** @type {const} */ (["description", "latex", "json"]);
 
 /**
  * @param {Page} page
@@ -33,24 +33,13 @@ export function certificateSection(page, {bytes, certificate, description}) {
 }
 
 /**
- * @param {import("../infinite/fields.js").Infinite} certificate
- * @param {((output: string) => Promise<string>) | null} describe what describes it, where the module can
- */
-export function infiniteSection({text, code, last, leftOut}, describe) {
-  const without = leftOut.length ? `_without_${leftOut.join("_")}` : "";
-  /** @type {Form[]} */
-  const forms = INFINITE_FORMS.map((output) => [output, FORMS[output], async () => describe?.(output) ?? ""]);
-  return keptSection(text, `${code}_heaps_${last}${without}.mqi`, describe ? forms : []);
-}
-
-/**
  * @param {import("../presented/fields.js").Presented} presented
  * @param {(output: string) => Promise<string>} describe
  */
 export function presentedSection({text, code, heaps, period, leftOut}, describe) {
   const without = leftOut.length ? `_without_${leftOut.join("_")}` : "";
   /** @type {Form[]} */
-  const forms = INFINITE_FORMS.map((output) => [output, FORMS[output], () => describe(output)]);
+  const forms = PRESENTED_FORMS.map((output) => [output, FORMS[output], () => describe(output)]);
   return keptSection(text, `${code}${period ? "" : `_heaps_${heaps}${without}`}.mqp`, forms);
 }
 

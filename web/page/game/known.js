@@ -3,7 +3,7 @@
 
 import {gameAddress} from "../address.js";
 import {make, separated} from "../dom.js";
-import {infiniteName, partOf, partWords} from "../infinite/fields.js";
+import {infiniteName, partOf, partWords} from "../infinite/part.js";
 import {theoremOf} from "../infinite/theorem.js";
 import {explained} from "../terms.js";
 import {wholeName} from "../whole/fields.js";
@@ -42,7 +42,7 @@ export function knownSection(page, code, shown) {
 /**
  * @param {Page} page
  * @param {string} code
- * @param {import("../infinite/fields.js").Part[]} infinite
+ * @param {import("../infinite/part.js").Part[]} infinite
  */
 function strongest(page, code, infinite) {
   const tail = page.atlas.tails.get(code);
@@ -77,23 +77,23 @@ function normalBeyond(code, heap) {
 }
 
 /**
- * The theorem of an infinite quotient, and whether its certificate was accepted here.
+ * The theorem of an infinite quotient, and whether its presentation was accepted here.
  * @param {Page} page
- * @param {import("../infinite/fields.js").Part} part
+ * @param {import("../infinite/part.js").Part} part
  */
 function theorem(page, part) {
   const name = infiniteName(part);
-  const certificate = make("a", {href: gameAddress(name)}, "a certificate of the atlas");
+  const presentation = make("a", {href: gameAddress(name)}, "a presentation of the atlas");
   return make(
       "p", {class: "partial", id: "theorem"}, explained("No finite quotient"), `: ${theoremOf(part)} This is by `,
-      certificate, ". ", judged(page, name));
+      presentation, ". ", judged(page, name));
 }
 
 /**
  * All certificates of a code, the one that is shown among them.
  * @param {import("../atlas.js").Atlas} atlas
  * @param {string} code
- * @param {import("../infinite/fields.js").Part[]} infinite
+ * @param {import("../infinite/part.js").Part[]} infinite
  * @param {string} shown
  */
 function partsTable({games, whole}, code, infinite, shown) {

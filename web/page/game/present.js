@@ -5,8 +5,6 @@ import {fieldsOf, lastHeap, verdictOf} from "../certificate.js";
 import {countSeconds} from "../counting.js";
 import {describedOf} from "../description.js";
 import {fill, make} from "../dom.js";
-import {isInfinite} from "../infinite/fields.js";
-import {presentInfinite} from "../infinite/present.js";
 import {wordsOf} from "../monoid.js";
 import {isPresented} from "../presented/fields.js";
 import {presentPresented} from "../presented/present.js";
@@ -49,7 +47,6 @@ const NOT_DESCRIBED = 16;
  * @param {boolean} isGame whether it is shown as a game's, so that what else is known of that stands above
  */
 export async function present(page, root, bytes, isGame = false) {
-  if (isInfinite(bytes)) return presentInfinite(page, root, bytes, isGame);
   if (isWhole(bytes)) return presentWhole(page, root, bytes, isGame);
   if (isPresented(bytes)) return presentPresented(page, root, bytes, isGame);
   const verdict = make("p", {class: "verdict", id: "verdict", role: "status"}, "Checking …");

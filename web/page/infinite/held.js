@@ -1,58 +1,20 @@
-// The certificates of infinite quotients that the page holds, made again out of the parts that determine them
-// (infinite.py). Nothing is believed of this: each text is checked before anything is told of it.
-
-import {multiplied, wordsOfKeys} from "../multiplication.js";
+// The presentations of infinite quotients that the page holds (infinite.py). Nothing is believed of them: each text is
+// checked before anything is told of it.
 
 /**
- * @typedef {object} Part what the lines of a certificate say, but for its code
+ * @typedef {object} Held a text without its first two lines
  * @property {string[]} codes those that have it
- * @property {string} heaps
- * @property {string} order
- * @property {string} phi
- * @property {string[]} tracks
- * @property {number} products where its products stand
- * @property {number} regions where its regions stand
- * @property {string} base
- * @property {string} up
- * @property {string} down
- *
- * @typedef {{parts: Part[], products: number[][], regions: string[]}} Told
+ * @property {string} part of which heaps it speaks, such as `34` or `34-33`
+ * @property {string} rest
  */
 
 /**
  * The text of a code's part, or null where there is none.
- * @param {Told} told
+ * @param {Held[]} held
  * @param {string} code
- * @param {string} name such as `34` or `34-33`
+ * @param {string} name
  */
-export function heldText(told, code, name) {
-  const part = told.parts.find((it) => it.codes.includes(code) && partName(it) === name);
-  return part ? textOf(told, code, part) : null;
-}
-
-/**
- * The last heap, and behind a dash each heap that is left out.
- * @param {{heaps: string, phi: string}} part
- */
-export function partName({heaps, phi}) {
-  const leftOut = phi.split(" ").flatMap((word, at) => (word === "-" ? [at + 1] : []));
-  return [heaps, ...leftOut].join("-");
-}
-
-/**
- * @param {Told} told
- * @param {string} code
- * @param {Part} part
- */
-function textOf({products, regions}, code, part) {
-  const phi = part.phi.split(" ").map((word) => (word === "-" ? null : Number(word)));
-  const made = multiplied(Number(part.order), Math.max(...phi.map(Number)), products[part.products]);
-  const lines = [
-    "mqi 1", `code ${code}`, `heaps ${part.heaps}`, `order ${part.order}`, `phi ${part.phi}`,
-    ...part.tracks.map((it) => `track ${it}`), `words ${wordsOfKeys(made, phi).join(" ")}`,
-    ...made.rows.slice(1).map((row) => `row ${row.join(" ")}`),
-    ...regions[part.regions].split(" ").map((it) => `region ${it.replace(":", " ")}`), `base ${part.base}`,
-    `up ${part.up}`, `down ${part.down}`, "end"
-  ];
-  return lines.join("\n") + "\n";
+export function heldText(held, code, name) {
+  const found = held.find(({codes, part}) => part === name && codes.includes(code));
+  return found ? `mqp 1\ncode ${code}\n${found.rest}` : null;
 }

@@ -1,8 +1,8 @@
-// What an accepted certificate of an infinite quotient proves, in a sentence.
+// What an accepted presentation of an infinite quotient proves, in a sentence.
 
-import {heapsTold} from "./fields.js";
+import {heapsTold} from "./part.js";
 
-/** @param {import("./fields.js").Part} part */
+/** @param {import("./part.js").Part} part */
 export function theoremOf(part) {
   const {code} = part;
   return `the misère quotient of ${heapsTold(part)} of ${

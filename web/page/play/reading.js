@@ -1,10 +1,7 @@
-// What a play needs of a certificate, of a finite quotient, of an infinite one or of a whole game, or of a
-// presentation.
+// What a play needs of a certificate of a finite quotient, of a text of a whole game, or of a presentation.
 
 import {fieldsOf, lastHeap} from "../certificate.js";
-import {memberOf} from "../infinite/family.js";
-import {heapsTold, infiniteOf, isInfinite, speaksOf} from "../infinite/fields.js";
-import {isPresented, presentedOf, reachOf, speaksOf as hasWords} from "../presented/fields.js";
+import {isPresented, presentedOf, reachOf, speaksOf} from "../presented/fields.js";
 import {isWhole, wholeOf} from "../whole/fields.js";
 
 export const USUAL_HEAPS = [3, 4, 5];
@@ -23,13 +20,9 @@ export const USUAL_HEAPS = [3, 4, 5];
  */
 export function readingOf(text) {
   if (isWhole(text)) return {code: wholeOf(text).code, reach: "all heaps", speaksOf: () => true, usual: USUAL_HEAPS};
-  if (isInfinite(text)) {
-    const it = infiniteOf(text);
-    return {code: it.code, reach: heapsTold(it), speaksOf: (heaps) => speaksOf(it, heaps), usual: memberOf(it, 1, 1)};
-  }
   if (isPresented(text)) {
     const it = presentedOf(text), usual = it.heapsOfLetters.length ? it.heapsOfLetters.slice(0, 3) : [1];
-    return {code: it.code, reach: reachOf(it), speaksOf: (heaps) => hasWords(it, heaps), usual};
+    return {code: it.code, reach: reachOf(it), speaksOf: (heaps) => speaksOf(it, heaps), usual};
   }
   const certificate = fieldsOf(text);
   const last = lastHeap(certificate) ?? Infinity;

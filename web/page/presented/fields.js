@@ -1,6 +1,8 @@
 // What the lines of the text of a presentation say. (The page's own reading.)
 
-/** Behind a slash and this the name of a presentation has its last heap, and those that are left out. */
+import {infiniteName} from "../infinite/part.js";
+
+/** Behind a slash and this the name of a finite presentation has its last heap, and those that are left out. */
 export const PRESENTED = "presented";
 
 /**
@@ -50,11 +52,24 @@ export function presentedOf(text) {
 }
 
 /**
- * The name of a presentation: its code, its last heap if it has one, and each heap that is left out.
+ * Whether each power of some letter is an element: none is the left side of a relation.
  * @param {Presented} presented
  */
-export function presentedName({code, heaps, period, leftOut}) {
-  return `${code}/${[PRESENTED, ...(period ? [] : [heaps, ...leftOut])].join("-")}`;
+function isEndless({letters, relations}) {
+  const powers = relations.map((it) => it.match(/^([a-z])(\^\d+)?=/)?.[1]);
+  return letters.some((letter) => !powers.includes(letter));
+}
+
+/**
+ * The name of a presentation: its code, its last heap if it has one, and each heap that is left out. (No part has a
+ * finite quotient and an infinite one. One that is finite may have a certificate too.)
+ * @param {Presented} presented
+ */
+export function presentedName(presented) {
+  const {code, heaps, period, leftOut} = presented;
+  if (period) return `${code}/${PRESENTED}`;
+  const name = infiniteName({code, last: heaps, leftOut});
+  return isEndless(presented) ? name : name.replace("/", `/${PRESENTED}-`);
 }
 
 /**

@@ -8,11 +8,13 @@ import {presentedSection} from "../game/certificate_section.js";
 import {linksOf} from "../game/links.js";
 import {ruleSection} from "../game/quotient.js";
 import {otherWins} from "../game/wins.js";
+import {theoremOf} from "../infinite/theorem.js";
 import {word} from "../mathml.js";
 import {Oracle} from "../oracle.js";
 import {LARGEST_HEAP_PLAYED, MOST_HEAPS_PLAYED} from "../play/bounds.js";
 import {sumOf} from "../positions.js";
 import {isNo, lineTold, toldOfCertificate} from "../refusals.js";
+import {explained} from "../terms.js";
 import {timeTold} from "../times.js";
 
 import {presentedName, presentedOf, presentedVerdict, reachOf} from "./fields.js";
@@ -23,6 +25,8 @@ import {thirdsOf} from "./third.js";
 /** @typedef {import("./quotient.js").Quotient} Quotient */
 
 const KIND = "This is a presentation: a quotient by generators, relations and P-portion, without a table.";
+const PREDICTS = "A position is P exactly if the product of its heaps’ words is in the portion. Two positions are " +
+    "indistinguishable exactly if their products are equal.";
 const NOT_CHECKED = "Not checked here: this page’s module has no calls for presentations. The program checks it, by " +
     "misere verify.";
 
@@ -67,13 +71,8 @@ export async function presentPresented(page, root, bytes, isGame = false) {
  */
 function sectionsOf(page, oracle, presented, quotient, isGame) {
   const name = page.collection.keep(presented.text), {code} = presented, usual = usualHeaps(presented);
-  const size = quotient.order === null ? "infinite" : `of order ${quotient.order}`;
-  const theorem =
-      `The misère quotient of ${reachOf(presented)} of ${code}, which is ${size}. A position is P exactly ` +
-      "if the product of its heaps’ words is in the portion. Two positions are indistinguishable exactly if their " +
-      "products are equal.";
   return [
-    make("p", {class: "partial", id: "theorem"}, theorem),
+    make("p", {class: "partial", id: "theorem"}, sizeTold(presented, quotient.order), PREDICTS),
     linksOf(page, playAddress(name, usual), code, isGame),
     ruleSection(code),
     quotientSection(quotient),
@@ -82,6 +81,19 @@ function sectionsOf(page, oracle, presented, quotient, isGame) {
     compareForm([usual.join(" "), "0"], (one, other) => comparedOf(oracle, presented, one, other)),
     presentedSection(presented, (output) => oracle.describe(output)),
   ];
+}
+
+/**
+ * Of which heaps it is the quotient, and whether that is infinite.
+ * @param {Presented} presented
+ * @param {number | null} order
+ */
+function sizeTold(presented, order) {
+  const {code, heaps, period, leftOut} = presented;
+  if (order === null && !period)
+    return [...explained("No finite quotient"), `: ${theoremOf({code, last: heaps, leftOut})} `];
+  const size = order === null ? "infinite" : `of order ${order}`;
+  return `The misère quotient of ${reachOf(presented)} of ${code}, which is ${size}. `;
 }
 
 /**

@@ -13,17 +13,18 @@ const PROVED = [
       "the game, of any number of heaps of any size, and its monoid is the misère quotient. There is no premise.",
   "If it says yes to a partial certificate, the same holds for the game in which only the heaps up to its last one " +
       "occur.",
-  "If it says infinite to a certificate with tracks, the certificate is right about who wins each position of its " +
-      "heaps, and their misère quotient is infinite: neither they nor the whole game have a finite one.",
+  "If it says yes or infinite to a presentation, that is right about who wins each position of its heaps, and about " +
+      "which positions are indistinguishable. If infinite, neither these heaps nor the whole game have a finite " +
+      "quotient.",
   "If it says infinite, and whole, to the text of a whole game, that is right about who wins each position of the " +
       "game, of any number of heaps of any size, and about which positions are indistinguishable.",
-  "A no is true of the bytes: the fault that is named is there. (8, 9, 33 and 34 say no more than that no yes came.)",
+  "A no is true of the bytes: the fault that is named is there. (8, 9 and 33 say no more than that no yes came.)",
   "The relations, words, units, idempotents and kernel of a description are those of the certified quotient. The " +
       "outcome of a position, its element and its first winning move are true.",
   "What the finder hands out is accepted by the checker. If it finds nothing, nothing is proved.",
   "For each certificate of a finite quotient in the atlas Coq, another prover, has proved the same without axioms. " +
-      "So it has for each text of a whole game, for most games that are normal play beyond a heap, and for most " +
-      "certificates with tracks. The page doesn’t run it.",
+      "So it has for each text of a whole game, and for most games that are normal play beyond a heap. The page " +
+      "doesn’t run it.",
 ];
 
 const TRUSTED = [
@@ -33,9 +34,7 @@ const TRUSTED = [
       "its addresses 32 bits wide.",
   "Your browser, and how the page passes bytes to the module and back.",
   "What the page draws. Its rules in words, its moves, its words for elements beyond those of a description, its " +
-      "components and its pictures are its own reading of a certificate. So are the heaps, base, up and down of one " +
-      "of an infinite quotient, and the positions of its family; their outcomes are the module’s. So are the triples " +
-      "of a whole game.",
+      "components and its pictures are its own reading of a certificate. So are the triples of a whole game.",
   "Beyond which heap a game is normal play: the program said so when the page was made.",
   "Which quotients are isomorphic, and which are tame in the list of the atlas: both were worked out when the page " +
       "was made. (A game’s page works out again whether it is tame.)",

@@ -111,7 +111,7 @@ def presented(it, program, steps, file):
     it.one(".links a").click()
     it.wait(lambda: it.all(".heap"))
     address = it.run("return location.hash")
-    steps.expect("it is played", address == "#play=0.404/presented-12:3,5,9", address)
+    steps.expect("it is played", address == "#play=0.404/12:3,5,9", address)
     it.go("#check")
 
 

@@ -140,8 +140,8 @@ def known(it, program, steps):
     said = it.said("#verdict", "yes 0.07")
     steps.expect("the certificate of a code is its furthest part", said.startswith("yes 0.07 order 638 heaps 33"), said)
     theorem = it.said("#theorem", "Checked here in", "Not checked", "Refused")
-    holds = "the heaps 1 to 34 without 33 of 0.07 is infinite" in theorem and "Checked here in" in theorem
-    steps.expect("that it has no finite quotient is told, and checked", holds, theorem)
+    holds = "the heaps 1 to 34 without 33 of 0.07 is infinite" in theorem and "Check it" in theorem
+    steps.expect("that it has no finite quotient is told, and a long check begins on demand", holds, theorem)
     tops = it.run("return ['#theorem', '#known table', '#verdict'].map((it) => document.querySelector(it).offsetTop)")
     steps.expect("before all else", tops == sorted(tops), tops)
     rows = [[link.text for link in row.find_elements("css selector", "a")] for row in it.all("#known tr")]

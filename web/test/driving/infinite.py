@@ -1,15 +1,13 @@
 """Games without a finite quotient."""
-from selenium.webdriver.common.keys import Keys
-
 from .check import judged
 from .game import answered, copies
 from .play import to_its_end
 
-NAME, FILE = "0.354/5", "0.354_heaps_5.mqi"
+NAME, FILE = "0.354/5", "0.354_heaps_5.mqp"
 
 
 def drive(it, program, steps):
-    codes = {file.name.split("_")[0] for file in (program.root / "atlas/infinite").glob("*.mqi")}
+    codes = {file.name.split("_")[0] for file in (program.root / "atlas/infinite").glob("*.mqp")}
     whole = program.module("atlas_page").whole_of(program.root)
     it.go("#atlas=speaks=infinite")
     it.listed(len(codes | whole.keys()))
@@ -21,42 +19,10 @@ def drive(it, program, steps):
     if said.startswith("Not checked"):
         return steps.expect("a module without the calls is no verdict", "no calls" in said, said)
     steps.expect("the verdict", said.startswith(program.verdict(program.certificate(FILE))), said)
-    family(it, program, steps)
-    describes(it, program, steps)
+    copies(it, steps, ("copy", "copy-description", "copy-latex", "copy-json"))
     asks(it, program, steps)
     checks(it, program, steps)
     plays(it, program, steps)
-
-
-def family(it, program, steps):
-    """The cells of the picture, some of them beside the program."""
-    picture = it.one("svg.family")
-    it.picture("infinite")
-    wrong, seen = [], set()
-    for keys in (Keys.ARROW_RIGHT, Keys.ARROW_DOWN * 2, Keys.ARROW_RIGHT * 2, Keys.ARROW_DOWN, Keys.ARROW_RIGHT):
-        picture.send_keys(keys)
-        told = it.run("return arguments[0].parentNode.querySelector('.said').textContent", picture)
-        heaps, outcome = told.split(": ", 1)[1].split(" is ")
-        position = " ".join(heap for word in heaps.split(" + ") for heap in counted(word))
-        is_lost = program.move(FILE, position) == "lost"
-        seen.add(is_lost)
-        wrong += [told] if is_lost != outcome.startswith("P") else []
-    steps.expect("the cells of the family are the program's", not wrong, wrong or f"{len(seen)} outcomes")
-
-
-def describes(it, program, steps):
-    """All that the certificate says, shown and copied."""
-    wanted = program.told("infinite", program.certificate(FILE), "--show")
-    it.one("#described summary").click()
-    told = it.said("#described pre", "heaps", "verdict")
-    steps.expect("it is shown in full as the program does", told.strip() == wanted, told[:60])
-    copies(it, steps, ("copy", "copy-description", "copy-latex", "copy-json"))
-
-
-def counted(word):
-    """The heaps of a word such as `3·30`."""
-    *count, size = word.split("·")
-    return [size] * int(count[0] if count else 1)
 
 
 def asks(it, program, steps):
@@ -70,8 +36,8 @@ def asks(it, program, steps):
 
 def checks(it, program, steps):
     it.go("#check")
-    for file in program.infinite_samples():
-        verdicts = ("infinite 0", "no ", "No verdict")
+    for file in program.presented_samples():
+        verdicts = ("yes ", "infinite 0", "no ", "No verdict")
         said = judged(it, lambda: it.one("#file").send_keys(str(file)), verdicts)
         steps.expect(f"the file {file.name}", said.startswith(program.verdict(file)), said)
 

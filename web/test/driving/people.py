@@ -35,7 +35,7 @@ def shown(it, view):
     it.open(f"#{view}")
     it.wait(lambda: it.text("h1"))
     if view.startswith(("game", "find")):
-        it.wait(lambda: it.all("svg.family, #triples") or len(it.all(".grid")) == 2)
+        it.wait(lambda: it.all("#words, #triples") or len(it.all(".grid")) == 2)
     if view.startswith("play"):
         it.wait(lambda: it.all(".token"))
 

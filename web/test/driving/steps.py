@@ -62,15 +62,17 @@ class Program:
         return self.module("script").load(self.root / "scripts" / name, name)
 
     def certificate(self, name):
-        return self.root / "certificates" / (name if name.endswith((".mqi", ".mqw", ".mqp")) else f"{name}.mqc")
+        return self.root / "certificates" / (name if name.endswith((".mqw", ".mqp")) else f"{name}.mqc")
 
     def samples(self):
         folder = self.root / "certificates"
         return [*sorted(folder.glob("*.mqc")), *sorted(folder.glob("refused/*.mqc"))]
 
-    def infinite_samples(self):
+    def presented_samples(self):
+        """Presentations whose check takes a second at most."""
         folder = self.root / "certificates"
-        return [*sorted(folder.glob("*.mqi")), *sorted(folder.glob("refused/*.mqi"))]
+        quick = [it for it in sorted(folder.glob("*.mqp")) if it.stat().st_size < 2000]
+        return [*quick, *sorted(folder.glob("refused/*.mqp"))]
 
     def told(self, *words):
         """What the program prints."""
@@ -87,8 +89,7 @@ class Program:
 
     def verdict(self, file):
         """The line of a verdict, with the failing position behind it as the page writes it."""
-        kinds = {b"mqp ": "verify", b"mqi ": "infinite", b"mqw ": "infinite"}
-        usual = "check" if file.suffix == ".mqc" else "infinite"
-        first, *rest = self.told(kinds.get(file.read_bytes()[:4], usual), file).splitlines()
+        kinds = {b"mqp ": "verify", b"mqw ": "infinite"}
+        first, *rest = self.told(kinds.get(file.read_bytes()[:4], "check"), file).splitlines()
         heaps = [word for line in rest for word in line.split()[3:] if word != "0"]
         return f"{first} at [{', '.join(counted(heaps))}]" if first.startswith("no 7") else first

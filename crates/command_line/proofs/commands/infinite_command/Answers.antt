@@ -9,5 +9,4 @@ returns c =
     c.optional.ensures.local in
     let three = c.with_arg-made-3.ensures _ _ _ two c.flag.ensures.rule c.flag.ensures.local in
     let four = c.with_arg-made-4.ensures _ _ _ three c.flag-2.ensures.rule c.flag-2.ensures.local in
-    let five = c.with_arg-made-5.ensures _ _ _ four c.flag-3.ensures.rule c.flag-3.ensures.local in
-    c.with_arg.ensures _ _ _ five c.limit.ensures.rule c.limit.ensures.local
+    c.with_arg.ensures _ _ _ four c.flag-3.ensures.rule c.flag-3.ensures.local

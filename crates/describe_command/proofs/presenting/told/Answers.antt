@@ -1,7 +1,12 @@
+use Rattle.std.proofs.Common.{List, ℕ, subst, sym}
+use Rattle.presented_text.specs.Spelling.{SpellsPresented}
 use Rattle.describe_command.specs.Described.TellsPresentation.{Presenting}
 use Rattle.describe_command.proofs.presenting.told.Goals as goal
 
 pub returns : goal.returns
 returns c =
-    Presenting c.args.found.quotient c.requires.accepted.0 c.requires.accepted.1 c.requires.code
-    c.requires.heaps c.requires.period
+    let found = c.into_text.ensures.found in
+    Presenting c.args.found.quotient
+    (subst (λ (t : List ℕ). SpellsPresented t c.args.found.quotient.said) (sym c.into_text.ensures.text)
+    found.spelled)
+    found.right c.requires.code c.requires.heaps c.requires.period

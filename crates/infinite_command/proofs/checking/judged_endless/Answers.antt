@@ -5,7 +5,7 @@ use Rattle.infinite_command.proofs.checking.judged_endless.Goals as goal
 pub returns-then-is_some : goal.returns-then-is_some
 returns-then-is_some c =
     finite_told c.args.bytes.now _ c.in_ok-quotient.field-0 c.in-Ok.quotient c.order.result c.in_ok-quotient.ensures
-    c.in-Ok.is c.order.ensures (sym c.is_some.ensures ∙ c.if-is_some.true) c.in_ok-unshown-in-Ok.ensures
+    c.in-Ok.is c.order.ensures (sym c.is_some.ensures ∙ c.if-is_some.true) c.in_ok-finite_text-in-Ok.ensures
 
 pub returns-in-Err : goal.returns-in-Err
 returns-in-Err c =

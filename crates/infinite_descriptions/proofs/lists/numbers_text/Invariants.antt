@@ -4,4 +4,4 @@ use Rattle.infinite_descriptions.specs.Lists.{numbers_in}
 use Rattle.infinite_descriptions.proofs.lists.numbers_text.Given as goal
 
 abbrev pub invariant-loop-k : goal.invariant-loop-k
-invariant-loop-k l = string_bytes l.text ≡ numbers_in l.between l.sizes l.k
+invariant-loop-k l = string_bytes l.text ≡ numbers_in l.between l.numbers l.k

@@ -1,4 +1,4 @@
-use Rattle.solve_infinite_command.specs.Found.Finds.{FoundWhole}
+use Rattle.solve_infinite_command.specs.Found.Finds.{FoundWhole, FoundPart}
 use Rattle.solve_infinite_command.proofs.saying.found.Goals as goal
 
 pub returns-in-Some : goal.returns-in-Some

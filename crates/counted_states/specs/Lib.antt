@@ -1,4 +1,0 @@
-pub mod Numbers
-pub mod Idle
-pub mod Listed
-pub mod Numbering

@@ -1,7 +1,0 @@
-use Rattle.std.proofs.Common.{◌≡◌}
-use Rattle.std.specs.String.{string_bytes}
-use Rattle.infinite_descriptions.specs.Heaps.{elements_in}
-use Rattle.infinite_descriptions.proofs.heaps.elements_text.Given as goal
-
-abbrev pub invariant-loop-k : goal.invariant-loop-k
-invariant-loop-k g l = string_bytes l.text ≡ elements_in l.t l.k

@@ -1,7 +1,0 @@
-use Rattle.std.proofs.Common.{◌≡◌}
-use Rattle.std.specs.String.{string_bytes}
-use Rattle.infinite_descriptions.specs.Tables.{row_in}
-use Rattle.infinite_descriptions.proofs.tables.row_text.Given as goal
-
-abbrev pub invariant-loop-k : goal.invariant-loop-k
-invariant-loop-k g l = string_bytes l.text ≡ row_in l.between l.t l.x l.k

@@ -1,4 +1,0 @@
-pub mod Loop
-pub mod Elements
-pub mod MadeRows
-pub mod Assembled

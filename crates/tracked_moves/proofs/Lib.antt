@@ -1,5 +1,0 @@
-mod Below
-mod Lists
-mod Rows
-mod Spoken
-mod Walked

@@ -1,5 +1,0 @@
-mod Below
-mod Cells
-mod Counts
-mod Looked
-mod Moved

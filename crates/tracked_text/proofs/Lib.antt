@@ -1,9 +1,0 @@
-pub mod Entries
-pub mod Hex
-pub mod Words
-pub mod Tracks
-pub mod Grouped
-pub mod Parts
-pub mod Whole
-pub mod Rows
-pub mod Shape

@@ -1,4 +1,0 @@
-pub mod Said
-pub mod Shape
-pub mod Spelling
-pub mod Reading
