@@ -22,7 +22,6 @@ fn told(code: &Code, heaps: u32, found: FoundPresentation) -> Said
     requires few { found.quotient.said.heaps ≤ heaps }
     ensures { FindsPart code.now heaps result.text.items result.succeeds }
 {
-    let _ = (code, heaps);
     Said {
         text: found.into_text(),
         succeeds: true,
@@ -33,7 +32,6 @@ fn told(code: &Code, heaps: u32, found: FoundPresentation) -> Said
 fn unfound(alloc: Global, code: &Code, heaps: u32, why: Unfound) -> Result<Said, Memory>
     ensures { IfOk result (λ s. FindsPart code.now heaps s.text.items s.succeeds) }
 {
-    let _ = (code, heaps);
     Ok(Said {
         text: reason_text(alloc, why)?.into_bytes(),
         succeeds: false,
