@@ -19,7 +19,7 @@ _misere() {
         present) options="--help" ;;
         catalogue) options="--new --add --get --heaps --salvage --migrate --table --json --limit --help" ;;
         desk) options="--help" ;;
-        infinite) options="--show --latex --json --limit --help" ;;
+        infinite) options="--show --latex --json --help" ;;
         tail) options="--limit --help" ;;
         verify) options="--limit --help" ;;
         value) options="--limit --help" ;;

@@ -35,10 +35,10 @@ complete -c misere -n '__fish_seen_subcommand_from solve; and not __fish_seen_su
 complete -c misere -n '__fish_seen_subcommand_from solve; and not __fish_seen_subcommand_from help' -l any -d 'Look as --deep, and if that gives up, for the most heaps 1 to M, as --furthest'
 complete -c misere -n '__fish_seen_subcommand_from solve; and not __fish_seen_subcommand_from help' -l partial -x -d 'Look for the quotient of the heaps 1 to M alone: 1 to 1024'
 complete -c misere -n '__fish_seen_subcommand_from solve; and not __fish_seen_subcommand_from help' -l furthest -x -d 'Look for the most heaps 1 to M whose quotient has at most Q elements: 2 to 4096'
-complete -c misere -n '__fish_seen_subcommand_from solve; and not __fish_seen_subcommand_from help' -l order -x -d 'Propose no quotient of more than Q elements: 2 to 256, by default 64, with --deep, --any, --partial and --infinite 2 to 4096'
+complete -c misere -n '__fish_seen_subcommand_from solve; and not __fish_seen_subcommand_from help' -l order -x -d 'Propose no quotient of more than Q elements: 2 to 256, by default 64, with --deep, --any and --partial 2 to 4096'
 complete -c misere -n '__fish_seen_subcommand_from solve; and not __fish_seen_subcommand_from help' -l why -d 'Tell why the search is given up'
-complete -c misere -n '__fish_seen_subcommand_from solve; and not __fish_seen_subcommand_from help' -l infinite -d 'Look for a part, the heaps 1 to some n, of which a certificate shows that its quotient is infinite: n to M of --heaps, 1 to 1024, by default 64'
-complete -c misere -n '__fish_seen_subcommand_from solve; and not __fish_seen_subcommand_from help' -l presented -d 'With --infinite: print the presentation of its quotient'
+complete -c misere -n '__fish_seen_subcommand_from solve; and not __fish_seen_subcommand_from help' -l infinite -d 'Look for the text of the whole game, or else for a presentation of a part, the heaps 1 to some n, whose quotient is infinite: n to M of --heaps, 1 to 1024, by default 64'
+complete -c misere -n '__fish_seen_subcommand_from solve; and not __fish_seen_subcommand_from help' -l presented -d 'With --infinite: look for a presentation alone'
 complete -c misere -n '__fish_seen_subcommand_from solve; and not __fish_seen_subcommand_from help' -l help -d 'Print help'
 complete -c misere -n '__fish_seen_subcommand_from series; and not __fish_seen_subcommand_from help' -l order -x -d 'End before the first quotient that isn\'t found with at most Q elements: 2 to 4096, by default 256'
 complete -c misere -n '__fish_seen_subcommand_from series; and not __fish_seen_subcommand_from help' -l heaps -x -d 'End with n = M: 1 to 1024, by default 64'
@@ -88,10 +88,9 @@ complete -c misere -n '__fish_seen_subcommand_from catalogue; and not __fish_see
 complete -c misere -n '__fish_seen_subcommand_from desk; and not __fish_seen_subcommand_from help' -F
 complete -c misere -n '__fish_seen_subcommand_from desk; and not __fish_seen_subcommand_from help' -l help -d 'Print help'
 complete -c misere -n '__fish_seen_subcommand_from infinite; and not __fish_seen_subcommand_from help' -F
-complete -c misere -n '__fish_seen_subcommand_from infinite; and not __fish_seen_subcommand_from help' -l show -d 'Print the elements and counts of the heaps, where each element is P, and a family of positions with its outcomes'
+complete -c misere -n '__fish_seen_subcommand_from infinite; and not __fish_seen_subcommand_from help' -l show -d 'Print the quotient, as \'misere describe\' does'
 complete -c misere -n '__fish_seen_subcommand_from infinite; and not __fish_seen_subcommand_from help' -l latex -d 'With --show: print it for LaTeX'
 complete -c misere -n '__fish_seen_subcommand_from infinite; and not __fish_seen_subcommand_from help' -l json -d 'With --show: print all of it as one object of JSON'
-complete -c misere -n '__fish_seen_subcommand_from infinite; and not __fish_seen_subcommand_from help' -l limit -x -d 'Keep at most N members of a closure: 1 to 1000000, by default 100000'
 complete -c misere -n '__fish_seen_subcommand_from infinite; and not __fish_seen_subcommand_from help' -l help -d 'Print help'
 complete -c misere -n '__fish_seen_subcommand_from tail; and not __fish_seen_subcommand_from help' -F
 complete -c misere -n '__fish_seen_subcommand_from tail; and not __fish_seen_subcommand_from help' -l limit -x -d 'Keep at most N members of a closure: 1 to 1000000, by default 100000'
