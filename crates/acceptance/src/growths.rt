@@ -8,7 +8,7 @@ use crate::{
 };
 use allocation::SmallAllocator;
 use positions::Left;
-use ration::Ration;
+use devices::Ration;
 use std::alloc::Global;
 
 /// What may take memory.

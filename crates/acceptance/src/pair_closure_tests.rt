@@ -1,10 +1,9 @@
 //! The closure of the game 0.3, whole and with growths refused.
 use crate::comparing::compare;
 use allocation::SmallAllocator;
-use monoid_table::Table;
+use monoid_table::{Phi, Table};
 use octal_code::Code;
 use pair_closure::{Closure, Grown};
-use pretending::Phi;
 use std::alloc::Global;
 use transition_algebra::{Pair, heap_pairs};
 

@@ -1,6 +1,6 @@
 //! Rows of numbers and their least periods.
 use crate::comparing::compare;
-use periods::least_period;
+use quotient_search::least_period;
 
 #[test]
 fn periods_are_least(rt: HostRuntime) {

@@ -1,14 +1,13 @@
 //! The pairs of the heaps of 0.75, of a game whose moves leave three heaps, and of a part of 0.3.
 ghost use Rattle.std.specs.Prelude.{◌≡◌, ◌≤◌, All, IfSome};
-ghost use Rattle.pretending.specs.Tables.{IsInto};
+ghost use Rattle.monoid_table.specs.PretendingTables.{IsInto};
 ghost use Rattle.transition_algebra.specs.Pairs.{IsPair};
 
 use crate::comparing::compare;
 use allocation::SmallAllocator;
 use element_sets::ElementSet;
-use monoid_table::{CommMonoid, Table, is_monoid};
+use monoid_table::{CommMonoid, Phi, Table, is_monoid};
 use octal_code::Code;
-use pretending::Phi;
 use std::alloc::{Allocator, Global};
 use transition_algebra::{HeapJob, Pair, Pairs, heap_pairs};
 

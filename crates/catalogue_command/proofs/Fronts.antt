@@ -1,7 +1,7 @@
 -- What a file holds that begins with what is read of it.
 use Rattle.std.proofs.Common.{◌≡◌, ◌≤◌, ℕ, List, Option, Some, None, length, sym, take}
 use Rattle.std.proofs.lemmas.List.{take_all}
-use Rattle.folders.specs.Files.{BeginsWith, Holds}
+use Rattle.streams.specs.Files.{BeginsWith, Holds}
 
 pub whole_of : (files : Option (List ℕ → Option (List ℕ))) (name : List ℕ) (many : ℕ)
     (front : List ℕ) → BeginsWith files name many front → length front ≤ many

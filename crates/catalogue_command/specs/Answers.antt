@@ -5,7 +5,7 @@ use Rattle.std.specs.List.{flat_map}
 use Rattle.std.specs.declared.alloc.Global.{Global}
 use Rattle.certificate_text.specs.Spelling.{lines, text}
 use Rattle.octal_code.specs.Text.{IsCodeText}
-use Rattle.folders.specs.Files.{Holds, Replaces}
+use Rattle.streams.specs.Files.{Holds, Replaces}
 use Rattle.misere_theory.specs.Certificates.{Certificate, kind_of}
 use Rattle.catalogue.specs.Entries.{HasEntry}
 use Rattle.catalogue.specs.Loads.{IsLoaded}

@@ -2,7 +2,7 @@
 use Rattle.std.specs.Prelude.{◌≡◌, ◌↔◌, ℕ, ◌==◌, ◌<◌, ◌≤◌, Bool, true, false, List, [], ◌∷◌, ◌++◌, Option, Some, None, Result, Ok, Err, codes, decimal, length, if◌then◌else◌}
 use Rattle.octal_code.specs.Text.{code_text}
 use Rattle.misere_theory.specs.Certificates.{Certificate, IsHeapOf, kind_of, phi_at}
-use Rattle.folders.specs.Files.{Holds}
+use Rattle.streams.specs.Files.{Holds}
 use Rattle.descriptions.specs.Described.{TellsTame}
 use Rattle.catalogue.specs.Loads.{IsLoaded}
 use Rattle.catalogue.specs.declared.fault.LoadFault.{LoadFault}

@@ -1,7 +1,7 @@
 -- What is said of a catalogue file, what it holds then, and why a task stops, for each task. This
 -- project's own.
 use Rattle.std.specs.Prelude.{◌≡◌, ℕ, Bool, true, false, List, Option, Some, None}
-use Rattle.folders.specs.Files.{Replaces}
+use Rattle.streams.specs.Files.{Replaces}
 use Rattle.requests.specs.Requests.{CatalogueRequest}
 use Rattle.requests.specs.Requests.CatalogueRequest.{Print, Table, New, Add, NewWith, Get, Salvage, Migrate}
 use Rattle.catalogue_command.specs.Answers.{Adds, Creates, Gets, Lists, Migrates, Salvages}

@@ -1,6 +1,6 @@
 //! A certificate added to a catalogue file.
 ghost use Rattle.std.specs.Prelude.{◌≡◌, IfErr, IfOk, Ok, OnErr, OnOk, false, string_bytes, true};
-ghost use Rattle.folders.specs.Files.{Replaces};
+ghost use Rattle.streams.specs.Files.{Replaces};
 ghost use Rattle.catalogue.specs.Texts.{catalogue_text};
 ghost use Rattle.catalogue_command.specs.Answers.{Adds, AddsAnswer, Begins, Creates, IsAddition, Takes};
 ghost use Rattle.catalogue_command.specs.Stops.{StopsAdd, StopsCreate, StopsList, StopsSalvage, failed};
@@ -9,10 +9,10 @@ use crate::files::{put, read, read_front};
 use crate::lines::{added_line, last_line, line};
 use allocation::Memory;
 use catalogue::{AddFault, Catalogue, LoadFault};
-use check_command::fronts_decide;
+use given_quotients::fronts_decide;
 use checker::{Certified, check};
 use command_results::{Said, Stop};
-use folders::Folder;
+use streams::Folder;
 use std::alloc::Global;
 use verdict_texts::verdict_text;
 

@@ -1,14 +1,14 @@
 //! The files of an action: what stops it is a read or a write.
 ghost use Rattle.std.specs.Prelude.{◌≡◌, ◌+◌, ◌≤◌, IfErr, IfOk, OnOk, OnErr, vec_len};
-ghost use Rattle.folders.specs.Files.{BeginsWith, Holds, Replaces};
+ghost use Rattle.streams.specs.Files.{BeginsWith, Holds, Replaces};
 ghost use Rattle.verdict_texts.specs.declared.stream.TheConstants.{MOST_BYTES};
 ghost use Rattle.catalogue_command.specs.Stops.{StopsCreate, StopsList, failed};
 
 use command_results::Stop;
-use folders::{FileFault, Folder};
+use streams::{FileFault, Folder};
 use verdict_texts::MOST_BYTES;
 
-/// Reads a catalogue, of at most [`LARGEST_FILE`](folders::LARGEST_FILE) bytes.
+/// Reads a catalogue, of at most [`LARGEST_FILE`](streams::LARGEST_FILE) bytes.
 pub(crate) fn read<'a, F: Folder>(folder: &mut F, name: &'a str) -> Result<Vec<u8>, Stop<'a>>
     ensures bytes { IfOk result (λ v. Holds (F.files folder.old) name.entry.now v.items) }
     ensures kept { F.files folder.new ≡ F.files folder.old }

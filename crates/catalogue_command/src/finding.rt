@@ -8,7 +8,7 @@ use crate::lines::{last_line, line};
 use allocation::Memory;
 use catalogue::{Catalogue, certificate_text};
 use command_results::{Said, Stop};
-use folders::Folder;
+use streams::Folder;
 use octal_code::Code;
 use std::alloc::Global;
 

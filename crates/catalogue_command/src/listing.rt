@@ -8,7 +8,7 @@ use crate::lines::{entry_lines, last_line};
 use allocation::Memory;
 use catalogue::Catalogue;
 use command_results::{Said, Stop};
-use folders::Folder;
+use streams::Folder;
 use std::alloc::Global;
 
 /// What is printed of the bytes.

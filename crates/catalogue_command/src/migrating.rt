@@ -8,7 +8,7 @@ use crate::files::read;
 use crate::lines::{last_line, migrated_line};
 use catalogue::Catalogue;
 use command_results::{Said, Stop};
-use folders::Folder;
+use streams::Folder;
 use std::alloc::Global;
 
 /// Puts the entries of the file, whichever version it has, in its place as a file of the newest

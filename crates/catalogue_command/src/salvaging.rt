@@ -8,7 +8,7 @@ use crate::files::read;
 use crate::lines::{last_line, salvage_lines};
 use catalogue::Catalogue;
 use command_results::{Said, Stop};
-use folders::Folder;
+use streams::Folder;
 use std::alloc::Global;
 
 /// Puts the entries of the file that stand in its place, and gives the fault of each other entry

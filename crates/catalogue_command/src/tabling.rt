@@ -11,7 +11,7 @@ use allocation::Memory;
 use catalogue::Catalogue;
 use checker::Certified;
 use command_results::{Said, Stop};
-use folders::Folder;
+use streams::Folder;
 use std::alloc::Global;
 
 /// The table of the entries, as lines of fields or as an array of JSON.

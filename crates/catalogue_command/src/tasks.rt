@@ -11,7 +11,7 @@ use crate::migrating::migrate;
 use crate::salvaging::salvage;
 use crate::tabling::table;
 use command_results::{Said, Stop};
-use folders::Folder;
+use streams::Folder;
 use requests::CatalogueTask;
 use std::alloc::Global;
 

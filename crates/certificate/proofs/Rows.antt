@@ -6,8 +6,8 @@ use Rattle.std.proofs.lemmas.List.{get_or_append_left, get_or-append-add, take_a
 use Rattle.std.proofs.lemmas.List.Elements.{All-append, All-from_recursion, recursion_from_All}
 use Rattle.misere_theory.specs.Certificates.{Certificate, InRanges, claim_of}
 use Rattle.monoid_table.specs.Grids.{IsShaped}
-use Rattle.pretending.specs.Tables.{Agrees}
-use Rattle.pretending.specs.Pretending.{IsPretending}
+use Rattle.monoid_table.specs.PretendingTables.{Agrees}
+use Rattle.monoid_table.specs.Pretending.{IsPretending}
 use Rattle.certificate_text.specs.Reading.{rows_of}
 use Rattle.certificate.specs.Fields.{grid_of, pretending_of}
 

@@ -8,7 +8,7 @@ use Rattle.compact_certificates.specs.Compact.{expanded, is_expandable}
 use Rattle.certificate_text.specs.Spelling.{IsWritable}
 use Rattle.certificate_text.specs.Reading.{rows_of}
 use Rattle.monoid_table.specs.Grids.{Grid}
-use Rattle.pretending.specs.Pretending.{Pretending}
+use Rattle.monoid_table.specs.Pretending.{Pretending}
 
 pub record Fields : Type 0 where
   pub code : List ℕ

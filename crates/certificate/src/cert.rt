@@ -9,7 +9,7 @@ ghost use Rattle.certificate.specs.Fields.{IsWhole, certificate_of, pretending_o
 use crate::fields::Fields;
 use certificate_lines::Key;
 use octal_code::Code;
-use pretending::Phi;
+use monoid_table::Phi;
 use std::alloc::{Allocator, Global};
 use std::marker::Model;
 

@@ -1,7 +1,7 @@
 //! The lines of a certificate, apart.
 use certificate_lines::Key;
 use octal_code::Code;
-use pretending::Phi;
+use monoid_table::Phi;
 use std::alloc::{Allocator, Global};
 use std::marker::Model;
 

@@ -1,8 +1,8 @@
 //! What a certificate claims, by its lines and by its fields.
 ghost use Rattle.misere_theory.specs.Certificates.{Certificate, InRanges, claim_of};
 ghost use Rattle.monoid_table.specs.Grids.{IsShaped};
-ghost use Rattle.pretending.specs.Tables.{Agrees, IsInto};
-ghost use Rattle.pretending.specs.Pretending.{IsPretending};
+ghost use Rattle.monoid_table.specs.PretendingTables.{Agrees, IsInto};
+ghost use Rattle.monoid_table.specs.Pretending.{IsPretending};
 ghost use Rattle.certificate.specs.Fields.{grid_of, pretending_of};
 ghost use Rattle.std.specs.List.{concat};
 

@@ -2,7 +2,7 @@
 ghost use Rattle.std.specs.Prelude.{◌≡◌, ◌≤◌, ◌<◌, ◌+◌, IfOk};
 ghost use Rattle.misere_theory.specs.declared.TheConstants.{LARGEST_ORDER};
 ghost use Rattle.misere_theory.specs.Certificates.{format_of};
-ghost use Rattle.pretending.specs.Pretending.{IsPretending};
+ghost use Rattle.monoid_table.specs.Pretending.{IsPretending};
 ghost use Rattle.certificate.specs.Fields.{pretending_of, fields_of};
 ghost use Rattle.certificate_lines.specs.Given.{Gives};
 ghost use Rattle.certificate_text.specs.Reading.{lists_at};
@@ -11,7 +11,7 @@ use crate::fields::Fields;
 use crate::format::format_by;
 use crate::front::front_lines;
 use certificate_lines::{Front, Key, Reader, TextFault, key_line, line, portion};
-use pretending::Phi;
+use monoid_table::Phi;
 use std::alloc::{Allocator, Global};
 use std::marker::Model;
 

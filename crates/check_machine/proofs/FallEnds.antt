@@ -7,7 +7,7 @@ use Rattle.monoid_table.specs.Grids.{Grid}
 use Rattle.misere_theory.specs.Games.{IsCode}
 use Rattle.misere_theory.specs.Certificates.{Certificate, InRanges}
 use Rattle.transition_algebra.specs.OverSets.{Pair}
-use Rattle.pretending.specs.Pretending.{Pretending, IsPretending}
+use Rattle.monoid_table.specs.Pretending.{Pretending, IsPretending}
 use Rattle.transition_algebra.specs.Work.{heap_cost, most_turns as heaps_turns}
 use Rattle.transition_algebra.specs.Heaps.{heap_pair, all_heap_pairs}
 use Rattle.certificate.specs.Fields.{grid_of, pretending_of}

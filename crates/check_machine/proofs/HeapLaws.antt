@@ -11,7 +11,7 @@ use Rattle.misere_theory.specs.Certificates.{Certificate, kind_of, IsHeapOf, cla
 use Rattle.misere_theory.proofs.Written.{phi_in}
 use Rattle.misere_theory.proofs.Counting.{bound_counts, position_where}
 use Rattle.monoid_table.specs.Grids.{Grid}
-use Rattle.pretending.specs.Tables.{Agrees}
+use Rattle.monoid_table.specs.PretendingTables.{Agrees}
 use Rattle.transition_algebra.specs.Heaps.{AreAllHeapPairs, IsHeapPairs}
 use Rattle.transition_algebra.specs.Pairs.{IsPair}
 use Rattle.transition_algebra.specs.OverSets.{Pair}

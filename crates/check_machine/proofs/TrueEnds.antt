@@ -16,8 +16,8 @@ use Rattle.monoid_table.specs.Grids.{Grid, IsShaped, entry}
 use Rattle.monoid_table.specs.Tables.{IsTableGrid}
 use Rattle.transition_algebra.specs.OverSets.{Pair}
 use Rattle.transition_algebra.specs.Pairs.{IsPair, is_empty}
-use Rattle.pretending.specs.Pretending.{Pretending, IsPretending}
-use Rattle.pretending.specs.Tables.{Agrees, IsInto}
+use Rattle.monoid_table.specs.Pretending.{Pretending, IsPretending}
+use Rattle.monoid_table.specs.PretendingTables.{Agrees, IsInto}
 use Rattle.transition_algebra.specs.Heaps.{IsHeapPairs, AreAllHeapPairs, all_heap_pairs}
 use Rattle.transition_algebra.specs.Work.{heap_cost}
 use Rattle.certificate.specs.Fields.{grid_of, pretending_of}

@@ -9,7 +9,7 @@ use Rattle.certificate_text.specs.Spelling.{Spells}
 use Rattle.certificate.specs.Fields.{grid_of, pretending_of}
 use Rattle.monoid_table.specs.Grids.{IsShaped}
 use Rattle.monoid_table.specs.Turns.{JobState, triples, turn, turns, fresh}
-use Rattle.pretending.specs.Tables.{Agrees}
+use Rattle.monoid_table.specs.PretendingTables.{Agrees}
 use Rattle.misere_theory.specs.Verdicts.{Fault, IsFirstFault}
 use Rattle.misere_theory.specs.Verdicts.Fault.{Law, Word, Order, Period, Apart}
 use Rattle.answers.specs.ByteVerdicts.ByteVerdict.{No}

@@ -9,7 +9,7 @@ use Rattle.misere_theory.specs.Faults.{LawFault}
 use Rattle.misere_theory.proofs.Monoids.{products_in}
 use Rattle.monoid_table.specs.Grids.{Grid, IsShaped, IsTable, entry}
 use Rattle.monoid_table.specs.Turns.{triples, triple_holds, turns, fresh, first_failing, passing, table_cost}
-use Rattle.pretending.specs.Tables.{Agrees}
+use Rattle.monoid_table.specs.PretendingTables.{Agrees}
 use Rattle.certificate.specs.Fields.{grid_of, pretending_of}
 use Rattle.check_machine.specs.LawfulCertificates.{IsLawful}
 use Rattle.check_machine.proofs.TableLaws.{monoid_along, fails_along}

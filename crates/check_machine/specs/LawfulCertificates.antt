@@ -4,7 +4,7 @@ use Rattle.misere_theory.specs.Certificates.{Certificate, InRanges, times_of}
 use Rattle.misere_theory.specs.Quotients.{Monoid}
 use Rattle.monoid_table.specs.Grids.{Grid}
 use Rattle.monoid_table.specs.Turns.{triples}
-use Rattle.pretending.specs.Pretending.{Pretending}
+use Rattle.monoid_table.specs.Pretending.{Pretending}
 use Rattle.certificate.specs.Fields.{Fields, certificate_of, IsWhole}
 
 -- the parts of a certificate whose rows are a table's

@@ -2,7 +2,7 @@
 use Rattle.std.proofs.Common.{◌≡◌, ◌⊎◌, ℕ, ◌+◌, ◌-◌, ◌<◌, ◌≤◌, Bool, true, false, List, refl, inl, inr, ap, subst, arith}
 use Rattle.misere_theory.specs.Certificates.{Certificate, InRanges}
 use Rattle.monoid_table.specs.Grids.{Grid}
-use Rattle.pretending.specs.Pretending.{Pretending}
+use Rattle.monoid_table.specs.Pretending.{Pretending}
 use Rattle.transition_algebra.specs.OverSets.{Pair}
 use Rattle.transition_algebra.specs.Heaps.{all_heap_pairs}
 use Rattle.transition_algebra.specs.Work.{HeapWork, heap_cost}

@@ -4,7 +4,7 @@ use Rattle.std.proofs.Common.{◌≡◌, ℕ, zero, suc, ◌+◌, ◌-◌, ◌<�
 use Rattle.std.specs.List.{sum_by, range_with_len}
 use Rattle.std.proofs.lemmas.List.Sums.{sum_by-cons}
 use Rattle.misere_theory.specs.Certificates.{Certificate, InRanges}
-use Rattle.pretending.specs.Pretending.{Pretending}
+use Rattle.monoid_table.specs.Pretending.{Pretending}
 use Rattle.transition_algebra.specs.Work.{heap_cost, tries}
 use Rattle.transition_algebra.specs.Heaps.{bound_of, heap_pair, all_heap_pairs}
 use Rattle.certificate.specs.Fields.{grid_of, pretending_of}

@@ -2,7 +2,7 @@
 use Rattle.std.proofs.Common.{◌≡◌, ℕ, ◌+◌, ◌<◌, ◌≤◌, false, List, refl, sym, ◌∙◌, ap, subst, inl, arith}
 use Rattle.misere_theory.specs.Certificates.{Certificate}
 use Rattle.monoid_table.specs.Turns.{JobState, turns, triples, is_over}
-use Rattle.pretending.specs.Pretending.{Pretending}
+use Rattle.monoid_table.specs.Pretending.{Pretending}
 use Rattle.certificate.specs.Fields.{IsWhole}
 use Rattle.check_machine.specs.LawfulCertificates.{IsUnderLaws}
 use Rattle.check_machine.specs.Views.{LawsView}

@@ -2,7 +2,7 @@
 use Rattle.std.specs.Prelude.{ℕ, List}
 use Rattle.misere_theory.specs.Certificates.{Certificate}
 use Rattle.monoid_table.specs.Grids.{Grid}
-use Rattle.pretending.specs.Pretending.{Pretending}
+use Rattle.monoid_table.specs.Pretending.{Pretending}
 use Rattle.certificate.specs.Fields.{Fields, certificate_of}
 use Rattle.check_machine.specs.LawfulCertificates.{fields_of}
 use Rattle.checker.specs.declared.lines.Lines.{Lines}

@@ -24,7 +24,7 @@ use element_sets::LaneSet;
 use misere_theory::certificates::tested_certificates_are_accepted;
 use octal_code::Code;
 use pair_closure::{Closure, Grown};
-use pretending::Phi;
+use monoid_table::Phi;
 use std::alloc::Global;
 use std::marker::Model;
 use transition_algebra::Pair;

@@ -5,9 +5,8 @@ ghost use Rattle.check_machine.specs.LawfulCertificates.{IsLawful};
 
 use crate::lines::Lines;
 use certificate::Key;
-use monoid_table::Table;
+use monoid_table::{Phi, Table};
 use octal_code::Code;
-use pretending::Phi;
 use std::alloc::{Allocator, Global};
 use std::marker::Model;
 

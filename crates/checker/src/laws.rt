@@ -13,9 +13,8 @@ use crate::stage::Stage;
 use allocation::SmallAllocator;
 use answers::Refusal;
 use certificate::{Cert, Fields};
-use monoid_table::{TableJob, turns_add_up};
+use monoid_table::{Phi, TableJob, turns_add_up};
 use octal_code::Code;
-use pretending::Phi;
 use std::alloc::Global;
 use std::marker::Model;
 

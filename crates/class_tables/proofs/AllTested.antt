@@ -3,7 +3,7 @@ use Rattle.std.proofs.Common.{Bool, List, length}
 use Rattle.presentations.specs.declared.TheConstants.{LETTERS}
 use Rattle.normal_forms.specs.Reductions.{AreConvergent}
 use Rattle.normal_forms.specs.Forms.{AreIn}
-use Rattle.kept_checker.specs.Numbers.{LabelTables, ClassTurns}
+use Rattle.kept_positions.specs.Numbers.{LabelTables, ClassTurns}
 use Rattle.presented_text.specs.Said.{PresentedSaid}
 use Rattle.presented_tables.specs.Numbers.{HeapNumbers}
 use Rattle.presented_tables.specs.Tested.{AreWordsIn, AreHeapsTested}

@@ -9,17 +9,17 @@ use Rattle.presentations.specs.Vectors.{plus}
 use Rattle.normal_forms.specs.Reductions.{AreConvergent}
 use Rattle.normal_forms.specs.Forms.{NormalForms, AreIn, product_by}
 use Rattle.normal_forms.proofs.Words.{length-sum}
-use Rattle.kept_checker.specs.Numbers.{LabelTables, entry}
+use Rattle.kept_positions.specs.Numbers.{LabelTables, entry}
 use Rattle.kept_positions.specs.Telling.{AreToldOrLowered}
-use Rattle.told_labels.specs.Told.{IsTold, mark_of}
+use Rattle.kept_positions.specs.Told.{IsTold, mark_of}
 use Rattle.presented_text.specs.Said.{PresentedSaid}
 use Rattle.presented_claims.specs.Claims.{heap_word, in_portion, IsElement, claim_of, cycled}
 use Rattle.presented_tables.specs.Numbers.{HeapNumbers}
-use Rattle.word_cells.proofs.Folds.{folded-finer}
-use Rattle.told_cells.specs.Led.{weight_of, RunsOn, IsLed, NeverMeet, AreSeparated}
-use Rattle.told_cells.specs.Led.NeverMeet.{Remainder, Below, Above, Apart}
-use Rattle.told_cells.specs.Led.AreSeparated.{Told, Lowered, Alone}
-use Rattle.told_cells.proofs.Told.{told}
+use Rattle.presented_claims.proofs.Folds.{folded-finer}
+use Rattle.presented_claims.specs.Led.{weight_of, RunsOn, IsLed, NeverMeet, AreSeparated}
+use Rattle.presented_claims.specs.Led.NeverMeet.{Remainder, Below, Above, Apart}
+use Rattle.presented_claims.specs.Led.AreSeparated.{Told, Lowered, Alone}
+use Rattle.presented_claims.proofs.Told.{told}
 use Rattle.class_tables.specs.Leads.{Led, Leads, turn_of}
 use Rattle.class_tables.specs.Classes.{word_at, IsOfClass}
 use Rattle.class_tables.specs.Tables.{ClassLists, AreLists, AreClassTables}

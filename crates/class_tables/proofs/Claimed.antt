@@ -16,8 +16,8 @@ use Rattle.normal_forms.proofs.Words.{length-sum}
 use Rattle.normal_forms.proofs.Confluence.{one-form}
 use Rattle.kept_positions.specs.Kept.{IsBadBeside, AreNeverBad}
 use Rattle.kept_positions.specs.Presented.{AreTestedLabels}
-use Rattle.kept_checker.specs.Numbers.{LabelTables}
-use Rattle.kept_checker.specs.Numbering.{Numbering, AreTablesOf}
+use Rattle.kept_positions.specs.Numbers.{LabelTables}
+use Rattle.kept_positions.specs.Numbering.{Numbering, AreTablesOf}
 use Rattle.presented_text.specs.Said.{PresentedSaid}
 use Rattle.presented_claims.specs.Claims.{heap_word, in_portion, IsElement, claim_of, cycled_exponent, cycled}
 use Rattle.presented_tables.specs.Elements.{place}
@@ -27,7 +27,7 @@ use Rattle.presented_tables.specs.Beside.{IsBeside}
 use Rattle.presented_tables.specs.declared.beside.Beside.TheVariants.{Bad, Good}
 use Rattle.presented_tables.proofs.Claimed.{cl, monoid, label-in, own-form, times-form, said, bad-is, good-is}
 use Rattle.presented_tables.proofs.Places.{place-in, place-is, place-first}
-use Rattle.word_cells.proofs.Exponents.{most}
+use Rattle.presented_claims.proofs.Exponents.{most}
 use Rattle.class_tables.specs.Classes.{word_at, IsOfClass, AreBeside}
 use Rattle.class_tables.specs.Tables.{ClassLists, AreLists, IsMark, AreClassTables}
 

@@ -2,8 +2,8 @@
 use Rattle.std.proofs.Common.{◌≡◌, ℕ, zero, suc, ◌+◌, ◌*◌, ◌/◌, ◌%◌, ◌<◌, ◌≤◌, List, [], ◌∷◌, length, refl, sym, ap, ◌∙◌, subst, arith}
 use Rattle.std.specs.Prelude.{slice_index, slice_index_or}
 use Rattle.std.proofs.Math.Nat.{mod-add-div}
-use Rattle.word_cells.specs.Folds.{at_letter}
-use Rattle.told_cells.specs.Led.{weight_of}
+use Rattle.presented_claims.specs.Folds.{at_letter}
+use Rattle.presented_claims.specs.Led.{weight_of}
 
 pub at-index : (cs : List (ℕ × ℕ)) (i : ℕ) (d : ℕ × ℕ) → i < length cs → at_letter cs i ≡ slice_index_or cs i d
 at-index [] i d lt = absurd (omega (arith, lt))

@@ -15,10 +15,10 @@ use Rattle.normal_forms.proofs.Confluence.{one-form, same-forms}
 use Rattle.normal_forms.proofs.Steps.{forms}
 use Rattle.presented_text.specs.Said.{PresentedSaid}
 use Rattle.presented_claims.specs.Claims.{IsElement, in_portion, cycled}
-use Rattle.word_cells.specs.Folds.{at_letter, AreFiner}
-use Rattle.word_cells.proofs.Folds.{folded-finer}
-use Rattle.told_cells.specs.Led.{IsLed, RunsOn}
-use Rattle.told_cells.proofs.Carried.{carried}
+use Rattle.presented_claims.specs.Folds.{at_letter, AreFiner}
+use Rattle.presented_claims.proofs.Folds.{folded-finer}
+use Rattle.presented_claims.specs.Led.{IsLed, RunsOn}
+use Rattle.presented_claims.proofs.Carried.{carried}
 use Rattle.class_tables.specs.Leads.{Led, turn_of, Leads}
 use Rattle.class_tables.specs.Classes.{AreFolds, IsOfClass, HaveFold, AreSaid}
 

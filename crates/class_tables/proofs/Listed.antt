@@ -5,9 +5,9 @@ use Rattle.presentations.specs.Vectors.{plus, zeros, only, bump}
 use Rattle.presentations.proofs.VectorLaws.{bump-plus}
 use Rattle.presented_text.specs.Said.{PresentedSaid}
 use Rattle.presented_claims.specs.Claims.{IsElement, cycled}
-use Rattle.word_cells.specs.Folds.{HavePeriods, AreFiner}
-use Rattle.word_cells.proofs.Folds.{folded-element, folded-finer}
-use Rattle.word_cells.proofs.Listed.{all-had}
+use Rattle.presented_claims.specs.Folds.{HavePeriods, AreFiner}
+use Rattle.presented_claims.proofs.Folds.{folded-element, folded-finer}
+use Rattle.presented_claims.proofs.Listed.{all-had}
 use Rattle.class_tables.specs.Classes.{word_at, IsThere, AreClasses}
 
 -- with letter i more, the word is in the list, if that is a class

@@ -1,7 +1,7 @@
 -- Classes that are lowered, by what was found.
 use Rattle.std.proofs.Common.{◌≡◌, ℕ, ◌+◌, ◌<◌, List, length, subst}
 use Rattle.presented_text.specs.Said.{PresentedSaid}
-use Rattle.told_cells.specs.Led.{weight_of}
+use Rattle.presented_claims.specs.Led.{weight_of}
 use Rattle.class_tables.specs.Leads.{Led, Leads}
 use Rattle.class_tables.specs.Classes.{word_at}
 use Rattle.class_tables.specs.Tables.{ClassLists}

@@ -2,8 +2,8 @@
 use Rattle.std.proofs.Common.{◌≡◌, ◌≢◌, ℕ, ◌<◌, ◌≤◌, ◌⊎◌, inl, inr, List, length, arith}
 use Rattle.std.specs.Prelude.{slice_index}
 use Rattle.std.proofs.lemmas.Bool.{cases_lt}
-use Rattle.word_cells.specs.Folds.{at_letter}
-use Rattle.told_cells.specs.Led.{RunsOn}
+use Rattle.presented_claims.specs.Folds.{at_letter}
+use Rattle.presented_claims.specs.Led.{RunsOn}
 use Rattle.class_tables.specs.Leads.{Led, turn_of}
 use Rattle.class_tables.specs.Separated.{HaveOwn}
 

@@ -1,10 +1,10 @@
 -- Classes that are settled, where there aren't too many letters.
 use Rattle.std.proofs.Common.{ℕ, ◌≤◌, ◌⊎◌, Bool, List, length}
 use Rattle.presentations.specs.declared.TheConstants.{LETTERS}
-use Rattle.kept_checker.specs.Numbers.{LabelTables}
-use Rattle.told_labels.specs.Told.{IsTold}
+use Rattle.kept_positions.specs.Numbers.{LabelTables}
+use Rattle.kept_positions.specs.Told.{IsTold}
 use Rattle.presented_text.specs.Said.{PresentedSaid}
-use Rattle.told_cells.specs.Led.{RunsOn}
+use Rattle.presented_claims.specs.Led.{RunsOn}
 use Rattle.class_tables.specs.Classes.{word_at}
 use Rattle.class_tables.specs.Tables.{ClassLists}
 use Rattle.class_tables.specs.Separated.{AreLowered, IsLowered}

@@ -6,15 +6,15 @@ use Rattle.presentations.specs.Vectors.{plus}
 use Rattle.normal_forms.specs.Reductions.{AreConvergent}
 use Rattle.normal_forms.specs.Forms.{NormalForms, AreIn}
 use Rattle.normal_forms.proofs.Words.{length-sum}
-use Rattle.kept_checker.specs.Numbers.{LabelTables, ClassTurns, DoesTurn}
-use Rattle.kept_checker.specs.Numbering.{AreTurnsOf}
+use Rattle.kept_positions.specs.Numbers.{LabelTables, ClassTurns, DoesTurn}
+use Rattle.kept_positions.specs.Numbering.{AreTurnsOf}
 use Rattle.presented_text.specs.Said.{PresentedSaid}
 use Rattle.presented_claims.specs.Claims.{heap_word, IsElement, claim_of, cycled}
 use Rattle.presented_tables.specs.Elements.{place}
 use Rattle.presented_tables.specs.Numbers.{HeapNumbers}
 use Rattle.presented_tables.specs.Tested.{AreWordsIn, AreHeapsTested}
 use Rattle.presented_tables.proofs.Claimed.{times-form}
-use Rattle.word_cells.proofs.Folds.{folded-finer}
+use Rattle.presented_claims.proofs.Folds.{folded-finer}
 use Rattle.class_tables.specs.Classes.{word_at}
 use Rattle.class_tables.specs.Tables.{ClassLists, AreLists, AreClassTables}
 use Rattle.class_tables.specs.Turns.{AreTurned}

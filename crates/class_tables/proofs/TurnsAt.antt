@@ -6,8 +6,8 @@ use Rattle.presentations.specs.Vectors.{plus, only}
 use Rattle.presentations.specs.Congruences.{Related}
 use Rattle.normal_forms.specs.Forms.{IsNormalForm}
 use Rattle.presented_text.specs.Said.{PresentedSaid}
-use Rattle.word_cells.specs.Folds.{at_letter}
-use Rattle.told_cells.specs.Led.{weight_of, AreWholeAt, RunsOn}
+use Rattle.presented_claims.specs.Folds.{at_letter}
+use Rattle.presented_claims.specs.Led.{weight_of, AreWholeAt, RunsOn}
 use Rattle.class_tables.specs.Leads.{Led, turn_of, Leads}
 
 -- A period of letter j becomes the word d beside `to`, if it runs on in the class.

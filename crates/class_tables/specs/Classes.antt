@@ -10,7 +10,7 @@ use Rattle.presented_claims.specs.Claims.{IsElement, in_portion, cycled}
 use Rattle.presented_tables.specs.Tested.{Says}
 use Rattle.presented_tables.specs.Beside.{IsBeside}
 use Rattle.presented_tables.specs.declared.beside.Beside.{Beside}
-use Rattle.word_cells.specs.Folds.{HavePeriods, AreAbove}
+use Rattle.presented_claims.specs.Folds.{HavePeriods, AreAbove}
 
 -- Thresholds and periods for the letters of a presentation; no left word has more of a letter than its threshold.
 pub record AreFolds (c : PresentedSaid) (folds : List (ℕ × ℕ)) : Type 0 where

@@ -5,8 +5,8 @@ use Rattle.presentations.specs.Vectors.{plus, only}
 use Rattle.presentations.specs.Congruences.{Related}
 use Rattle.normal_forms.specs.Forms.{IsNormalForm}
 use Rattle.presented_text.specs.Said.{PresentedSaid}
-use Rattle.word_cells.specs.Folds.{at_letter}
-use Rattle.told_cells.specs.Led.{weight_of, AreWholeAt, RunsOn}
+use Rattle.presented_claims.specs.Folds.{at_letter}
+use Rattle.presented_claims.specs.Led.{weight_of, AreWholeAt, RunsOn}
 
 -- The word to which a class is led, and for each letter what a period of it becomes there.
 pub record Led : Type 0 where

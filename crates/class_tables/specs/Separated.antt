@@ -1,11 +1,11 @@
 -- When two classes are told apart, in numbers and by normal forms. This project's own.
 use Rattle.std.specs.Prelude.{◌≡◌, ◌≢◌, ℕ, ◌+◌, ◌%◌, ◌<◌, ◌⊎◌, Bool, false, List, length, slice_index, slice_index_or}
-use Rattle.kept_checker.specs.Numbers.{LabelTables}
-use Rattle.told_labels.specs.Told.{IsTold}
+use Rattle.kept_positions.specs.Numbers.{LabelTables}
+use Rattle.kept_positions.specs.Told.{IsTold}
 use Rattle.presented_text.specs.Said.{PresentedSaid}
 use Rattle.presented_claims.specs.Claims.{in_portion}
-use Rattle.word_cells.specs.Folds.{at_letter}
-use Rattle.told_cells.specs.Led.{weight_of, RunsOn}
+use Rattle.presented_claims.specs.Folds.{at_letter}
+use Rattle.presented_claims.specs.Led.{weight_of, RunsOn}
 use Rattle.class_tables.specs.Leads.{Led, turn_of, Leads}
 use Rattle.class_tables.specs.Classes.{word_at}
 use Rattle.class_tables.specs.Tables.{ClassLists}

@@ -3,13 +3,13 @@ use Rattle.std.specs.Prelude.{◌≡◌, ℕ, ◌<◌, Bool, true, false, List, 
 use Rattle.presentations.specs.declared.TheConstants.{LETTERS}
 use Rattle.presentations.specs.Vectors.{plus, zeros}
 use Rattle.presentations.specs.Congruences.{Related}
-use Rattle.kept_checker.specs.Numbers.{LabelTables}
+use Rattle.kept_positions.specs.Numbers.{LabelTables}
 use Rattle.presented_text.specs.Said.{PresentedSaid}
 use Rattle.presented_claims.specs.Claims.{heap_word, IsElement, in_portion}
 use Rattle.presented_tables.specs.Numbers.{HeapNumbers, AreNumbers}
 use Rattle.presented_tables.specs.Rows.{AreRows}
 use Rattle.presented_tables.specs.declared.beside.Beside.TheVariants.{Bad, Good}
-use Rattle.word_cells.specs.Folds.{AreFiner}
+use Rattle.presented_claims.specs.Folds.{AreFiner}
 use Rattle.class_tables.specs.Classes.{AreFolds, word_at, AreClasses, HaveFold, AreBeside}
 
 -- Three folds, each finer than the one before: on a class of the second one each heap does the same, and on a class of

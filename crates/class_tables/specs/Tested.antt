@@ -7,12 +7,12 @@ use Rattle.normal_forms.specs.Forms.{NormalForms, AreIn}
 use Rattle.kept_positions.specs.Kept.{AreNeverBad}
 use Rattle.kept_positions.specs.Presented.{AreTestedLabels}
 use Rattle.kept_positions.specs.Telling.{AreToldOrLowered}
-use Rattle.kept_checker.specs.Numbers.{LabelTables, ClassTurns}
-use Rattle.kept_checker.specs.Numbering.{Numbering, AreTablesOf, AreTurnsOf}
+use Rattle.kept_positions.specs.Numbers.{LabelTables, ClassTurns}
+use Rattle.kept_positions.specs.Numbering.{Numbering, AreTablesOf, AreTurnsOf}
 use Rattle.presented_text.specs.Said.{PresentedSaid}
 use Rattle.presented_claims.specs.Claims.{IsElement, claim_of}
 use Rattle.presented_tables.specs.Tested.{HasWord}
-use Rattle.told_cells.specs.Led.{weight_of}
+use Rattle.presented_claims.specs.Led.{weight_of}
 use Rattle.class_tables.specs.Tables.{ClassLists, AreLists}
 use Rattle.class_tables.specs.Separated.{AreBits, AreSettledClasses}
 

@@ -1,11 +1,11 @@
 -- To which classes heaps take the elements of a class. This project's own.
 use Rattle.std.specs.Prelude.{◌≡◌, ℕ, ◌<◌, List, length, slice_index}
-use Rattle.kept_checker.specs.Numbers.{LabelTables, ClassTurns, DoesTurn}
+use Rattle.kept_positions.specs.Numbers.{LabelTables, ClassTurns, DoesTurn}
 use Rattle.presented_text.specs.Said.{PresentedSaid}
 use Rattle.presented_claims.specs.Claims.{heap_word, cycled}
 use Rattle.presented_tables.specs.Elements.{place}
 use Rattle.presented_tables.specs.Numbers.{HeapNumbers}
-use Rattle.word_cells.specs.Folds.{AreFiner}
+use Rattle.presented_claims.specs.Folds.{AreFiner}
 use Rattle.class_tables.specs.Classes.{AreFolds, word_at, AreClasses, HaveFold}
 use Rattle.class_tables.specs.Tables.{ClassLists}
 

@@ -5,7 +5,7 @@ ghost use Rattle.heap_options.specs.Exact.{heaps_of};
 ghost use Rattle.normal_forms.specs.Forms.{word_of};
 ghost use Rattle.presented_claims.specs.Claims.{heap_word, IsElement};
 ghost use Rattle.presented_tables.specs.Tested.{Says, SomeSays, NoneSays, AreWordsIn};
-ghost use Rattle.word_cells.specs.Folds.{AreFiner};
+ghost use Rattle.presented_claims.specs.Folds.{AreFiner};
 ghost use Rattle.class_tables.specs.Classes.{AreFolds, IsOfClass, HaveFold, AreSaid, AreBeside};
 
 use crate::leading::lead;

@@ -1,6 +1,6 @@
 //! The threshold and the period of a letter.
 ghost use Rattle.std.specs.Prelude.{◌≡◌, ◌<◌, length};
-ghost use Rattle.word_cells.specs.Folds.{at_letter};
+ghost use Rattle.presented_claims.specs.Folds.{at_letter};
 
 use presented_text::LetterCycle;
 

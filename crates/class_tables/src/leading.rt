@@ -4,8 +4,8 @@ ghost use Rattle.presentations.specs.declared.TheConstants.{LETTERS};
 ghost use Rattle.presentations.specs.Vectors.{plus, only};
 ghost use Rattle.presentations.specs.Congruences.{Related};
 ghost use Rattle.normal_forms.specs.Forms.{IsNormalForm};
-ghost use Rattle.word_cells.specs.Folds.{at_letter};
-ghost use Rattle.told_cells.specs.Led.{weight_of, AreWholeAt, RunsOn};
+ghost use Rattle.presented_claims.specs.Folds.{at_letter};
+ghost use Rattle.presented_claims.specs.Led.{weight_of, AreWholeAt, RunsOn};
 ghost use Rattle.class_tables.specs.Leads.{TurnsWhole, Leads};
 
 use crate::folding::cycle_at;

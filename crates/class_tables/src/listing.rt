@@ -4,7 +4,7 @@ ghost use Rattle.presentations.specs.declared.TheConstants.{LETTERS};
 ghost use Rattle.presentations.specs.Vectors.{plus, zeros, only};
 ghost use Rattle.presented_claims.specs.Claims.{IsElement, cycled};
 ghost use Rattle.presented_tables.specs.Faults.{IsTrueOf};
-ghost use Rattle.word_cells.specs.Folds.{HavePeriods};
+ghost use Rattle.presented_claims.specs.Folds.{HavePeriods};
 ghost use Rattle.class_tables.specs.Classes.{word_at, IsThere, AreClasses};
 
 use crate::classes::ListedWords;

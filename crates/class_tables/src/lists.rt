@@ -4,7 +4,7 @@ ghost use Rattle.presentations.specs.declared.TheConstants.{LETTERS};
 ghost use Rattle.presentations.specs.Vectors.{zeros};
 ghost use Rattle.presented_claims.specs.Claims.{IsElement};
 ghost use Rattle.presented_tables.specs.Faults.{IsTrueOf};
-ghost use Rattle.word_cells.specs.Folds.{AreFiner};
+ghost use Rattle.presented_claims.specs.Folds.{AreFiner};
 ghost use Rattle.class_tables.specs.Classes.{AreFolds, word_at};
 ghost use Rattle.class_tables.specs.Tables.{AreLists};
 

@@ -1,9 +1,9 @@
 //! Whether classes are told apart, or led to lighter words that are never the same.
 ghost use Rattle.std.specs.Prelude.{◌≡◌, ◌≢◌, ◌+◌, ◌<◌, ◌≤◌, ◌⊎◌, ℕ, IfSome, IsTrue, true, false, length, slice_index};
 ghost use Rattle.presentations.specs.declared.TheConstants.{LETTERS};
-ghost use Rattle.told_labels.specs.Told.{IsTold, mark_of};
-ghost use Rattle.told_cells.specs.Led.{weight_of, RunsOn};
-ghost use Rattle.word_cells.specs.Folds.{at_letter};
+ghost use Rattle.kept_positions.specs.Told.{IsTold, mark_of};
+ghost use Rattle.presented_claims.specs.Led.{weight_of, RunsOn};
+ghost use Rattle.presented_claims.specs.Folds.{at_letter};
 ghost use Rattle.class_tables.specs.Classes.{word_at};
 ghost use Rattle.class_tables.specs.Leads.{turn_of};
 ghost use Rattle.class_tables.specs.Separated.{DoDiffer, HasOwn, HaveOwn, AreLowered, IsLowered, AreSettledClasses};
@@ -13,7 +13,7 @@ use crate::leading::{Led, lead};
 use crate::lists::ClassLists;
 use crate::untold::UntoldPairs;
 use crate::weighing::weight;
-use kept_checker::LabelTables;
+use kept_positions::LabelTables;
 use normal_forms::Exponents;
 use presentations::LETTERS;
 use presented_tables::Presented;

@@ -2,8 +2,8 @@
 ghost use Rattle.std.specs.Prelude.{◌≡◌, ◌<◌, ◌≤◌, ◌+◌, ◌*◌, ℕ, IfSome, length, slice_index};
 ghost use Rattle.presentations.specs.declared.TheConstants.{LETTERS};
 ghost use Rattle.presentations.specs.Vectors.{plus};
-ghost use Rattle.word_cells.specs.Folds.{at_letter};
-ghost use Rattle.told_cells.specs.Led.{AreWholeAt};
+ghost use Rattle.presented_claims.specs.Folds.{at_letter};
+ghost use Rattle.presented_claims.specs.Led.{AreWholeAt};
 
 use crate::folding::cycle_at;
 use normal_forms::Exponents;

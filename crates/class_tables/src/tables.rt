@@ -19,7 +19,7 @@ use crate::rows::{images, marks, nexts};
 use crate::separating::are_separated;
 use crate::turning::turns_of;
 use crate::untold::UntoldPairs;
-use kept_checker::{ClassTurns, LabelTables};
+use kept_positions::{ClassTurns, LabelTables};
 use presentations::LETTERS;
 use presented_tables::{
     HeapNumbers, Presented, TablesFault, has_option, heap_that_leaves, heap_weights, in_portion,

@@ -1,7 +1,7 @@
 //! Thresholds and periods of letters, and tests of them.
 ghost use Rattle.std.specs.Prelude.{◌≡◌, ◌<◌, ◌≤◌, ◌*◌, ℕ, IsTrue, length, slice_index};
 ghost use Rattle.presentations.specs.declared.TheConstants.{LETTERS};
-ghost use Rattle.word_cells.specs.Folds.{at_letter, HavePeriods, AreAbove, AreFiner};
+ghost use Rattle.presented_claims.specs.Folds.{at_letter, HavePeriods, AreAbove, AreFiner};
 ghost use Rattle.class_tables.specs.Classes.{AreFolds};
 
 use crate::folding::cycle_at;

@@ -1,10 +1,10 @@
 //! To which classes heaps take the elements of a class: a list, and a test of it on classes of a finer fold.
 ghost use Rattle.std.specs.Prelude.{◌≡◌, ◌<◌, ◌≤◌, ℕ, IfOk, IfErr, IfSome, IsTrue, length, slice_index};
-ghost use Rattle.kept_checker.specs.Numbers.{DoesTurn};
+ghost use Rattle.kept_positions.specs.Numbers.{DoesTurn};
 ghost use Rattle.presented_tables.specs.Elements.{place};
 ghost use Rattle.presented_tables.specs.Faults.{IsTrueOf};
 ghost use Rattle.presented_claims.specs.Claims.{cycled};
-ghost use Rattle.word_cells.specs.Folds.{AreFiner};
+ghost use Rattle.presented_claims.specs.Folds.{AreFiner};
 ghost use Rattle.class_tables.specs.Classes.{AreFolds, word_at};
 ghost use Rattle.class_tables.specs.Tables.{AreLists};
 ghost use Rattle.class_tables.specs.Turns.{AreFine, AreFirsts, DoesTake, IsTurned, AreTurned};
@@ -17,7 +17,7 @@ use crate::placing::{are_firsts, first_place};
 use crate::rows::size_at;
 use crate::thresholds::{are_finer, are_folds};
 use allocation::Memory;
-use kept_checker::{ClassTurns, LabelTables};
+use kept_positions::{ClassTurns, LabelTables};
 use presented_tables::{HeapNumbers, Presented, TablesFault, cycled_word};
 use presented_text::LetterCycle;
 use std::alloc::{Allocator, Global};

@@ -1,6 +1,6 @@
 //! The weights of words.
 ghost use Rattle.std.specs.Prelude.{◌≡◌, IfSome, slice_index};
-ghost use Rattle.told_cells.specs.Led.{weight_of};
+ghost use Rattle.presented_claims.specs.Led.{weight_of};
 
 use normal_forms::Exponents;
 use presentations::LETTERS;

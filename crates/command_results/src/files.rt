@@ -1,10 +1,10 @@
 //! Files that commands read.
 ghost use Rattle.std.specs.Prelude.{◌≡◌, ◌+◌, ◌≤◌, IfOk, IfErr, vec_len};
-ghost use Rattle.folders.specs.Files.{BeginsWith, Holds};
+ghost use Rattle.streams.specs.Files.{BeginsWith, Holds};
 ghost use Rattle.command_results.specs.Stops.{IsFileCause};
 
 use crate::stop::Stop;
-use folders::{FileFault, Folder, read_all};
+use streams::{FileFault, Folder, read_all};
 
 /// All bytes of the file, which are at most so many: a larger file can't be read.
 pub fn read_file<'a, F: Folder>(

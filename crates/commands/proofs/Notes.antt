@@ -3,8 +3,8 @@ use Rattle.std.proofs.Common.{◌≡◌, refl, ℕ, Bool, Bor, false, List, Opti
 use Rattle.std.specs.Prelude.{option_map}
 use Rattle.commands.specs.Causes.{notes}
 use Rattle.commands.specs.Responses.{RespondsWith, Says}
-use Rattle.describe_command.specs.Described.{Describes, form_of}
-use Rattle.describe_command.specs.Described.Describes.{ByQuotient, NoQuotient}
+use Rattle.description_commands.specs.Described.{Describes, form_of}
+use Rattle.description_commands.specs.Described.Describes.{ByQuotient, NoQuotient}
 use Rattle.given_quotients.specs.declared.giving.Quotient.TheVariants.{Finite, Whole, Presented}
 use Rattle.requests.specs.declared.plans.Output.{Output}
 use Rattle.requests.specs.declared.plans.Output.TheVariants.{Description, Latex, Json, Relations, Singular, Gap, GapTable, Structure, Presentation}

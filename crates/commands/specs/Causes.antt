@@ -2,16 +2,16 @@
 use Rattle.std.specs.Prelude.{ℕ, ◌||◌, Bool, true, false, List, Option, Some, None, is_none, is_some}
 use Rattle.catalogue_command.specs.Stops as catalogue
 use Rattle.catalogue_command.specs.Tasks.{StopsTask}
-use Rattle.certify_command.specs.Certifies.{IsTableCause}
-use Rattle.check_command.specs.Checks as check
-use Rattle.check_command.specs.Checks.{IsGivenCause}
-use Rattle.compare_command.specs.Compared.{IsCompareCause}
+use Rattle.solve_command.specs.Certifies.{IsTableCause}
+use Rattle.given_quotients.specs.Checks as check
+use Rattle.given_quotients.specs.Checks.{IsGivenCause}
+use Rattle.description_commands.specs.Compared.{IsCompareCause}
 use Rattle.command_results.specs.Lines.{AreLinesOf, IsLinesCause}
 use Rattle.command_results.specs.Stops.{IsMemory}
 use Rattle.command_results.specs.declared.stop.Stop.{Stop}
-use Rattle.folders.specs.declared.folder.Folder as folder
-use Rattle.play_command.specs.Many.{IsPlayLinesCause}
-use Rattle.play_command.specs.Plays.{IsPlayCause}
+use Rattle.streams.specs.declared.folder.Folder as folder
+use Rattle.position_commands.specs.Many.{IsPlayLinesCause}
+use Rattle.position_commands.specs.Plays.{IsPlayCause}
 use Rattle.position_commands.specs.Said.{IsApartCause}
 use Rattle.requests.specs.declared.plans.Output.TheVariants.{Relations}
 use Rattle.requests.specs.Requests.{Request}

@@ -1,3 +1,4 @@
 pub mod Causes
 pub mod Obeys
 pub mod Responses
+pub mod Ends

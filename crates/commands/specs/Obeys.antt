@@ -1,7 +1,7 @@
 -- What a run did for a request, seen at its devices. This project's own.
 use Rattle.std.specs.Prelude.{◌≡◌, ℕ, Bool, List, Option}
 use Rattle.catalogue_command.specs.Tasks.{Leaves}
-use Rattle.folders.specs.declared.folder.Folder as folder
+use Rattle.streams.specs.declared.folder.Folder as folder
 use Rattle.streams.specs.Printers.{Printer, PrintsLine, printer}
 use Rattle.streams.specs.declared.sink.Sink as sink
 use Rattle.streams.specs.declared.source.Source as source

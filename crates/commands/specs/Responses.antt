@@ -2,31 +2,31 @@
 -- told beside it. This project's own.
 use Rattle.std.specs.Prelude.{◌≡◌, ℕ, Bool, List, Option, None}
 use Rattle.catalogue_command.specs.Tasks.{KeepsCatalogue, catalogue_written}
-use Rattle.certify_command.specs.Certifies.{Certifies}
-use Rattle.check_command.specs.Checks.{AreGiven, Checks}
+use Rattle.solve_command.specs.Certifies.{Certifies}
+use Rattle.given_quotients.specs.Checks.{AreGiven, Checks}
 use Rattle.command_results.specs.Lines.{AreLinesOf}
-use Rattle.compare_command.specs.Compared.{Compares, left_behind}
-use Rattle.describe_command.specs.Described.{Describes, form_of}
-use Rattle.explain_command.specs.Explained.{ExplainsGiven}
-use Rattle.infinite_command.specs.Checks.{ChecksEither}
-use Rattle.infinite_command.specs.Many.{PlaysInfiniteLines}
-use Rattle.infinite_command.specs.Plays.{PlaysInfinite}
-use Rattle.infinite_command.specs.Shown.{ShowsInfinite}
-use Rattle.play_command.specs.Many.{AreFileOf, PlaysLines}
-use Rattle.play_command.specs.Plays.{Plays}
+use Rattle.description_commands.specs.Compared.{Compares, left_behind}
+use Rattle.description_commands.specs.Described.{Describes, form_of}
+use Rattle.verdict_commands.specs.Explained.{ExplainsGiven}
+use Rattle.verdict_commands.specs.Checks.{ChecksEither}
+use Rattle.verdict_commands.specs.Many.{PlaysInfiniteLines}
+use Rattle.verdict_commands.specs.Plays.{PlaysInfinite}
+use Rattle.verdict_commands.specs.Shown.{ShowsInfinite}
+use Rattle.position_commands.specs.Many.{AreFileOf, PlaysLines}
+use Rattle.position_commands.specs.Plays.{Plays}
 use Rattle.position_commands.specs.Said.{AsksOfTwo, AsksValue, AsksWins}
-use Rattle.present_command.specs.Presented.{Presents}
+use Rattle.description_commands.specs.Presented.{Presents}
 use Rattle.requests.specs.Requests.{Request}
 use Rattle.requests.specs.Requests.Request.{Check, Solve, SolveMany, SolveLines, Series, Show, Tail, Describe, Play, PlayLines, Present, Catalogue, Desk}
 use Rattle.requests.specs.Requests.Request.{Explain, Compare, Certify, SolveInfinite, Infinite, ShowInfinite, PlayInfinite, PlayInfiniteLines}
 use Rattle.requests.specs.Requests.Request.{Verify, Wins, Value, Apart}
-use Rattle.series_command.specs.Series.{IsSeries}
-use Rattle.show_command.specs.Shown.{Shows}
-use Rattle.tail_command.specs.Lines.{Tails}
+use Rattle.solve_command.specs.Series.{IsSeries}
+use Rattle.description_commands.specs.Shown.{Shows}
+use Rattle.verdict_commands.specs.Lines.{Tails}
 use Rattle.solve_command.specs.Many.{AnswersCodes, SolvesLines}
 use Rattle.solve_command.specs.Solved.{Solves}
-use Rattle.solve_infinite_command.specs.Asked.{IsFound}
-use Rattle.verify_command.specs.Verifies.{Verifies}
+use Rattle.solve_command.specs.Asked.{IsFound}
+use Rattle.verdict_commands.specs.Verifies.{Verifies}
 
 -- What is said for each request, by what is left of standard input and by the files. What files
 -- hold then is said here of a catalogue alone; the other requests leave every file as it is. A

@@ -4,31 +4,20 @@ ghost use Rattle.catalogue_command.specs.Tasks.{Leaves};
 ghost use Rattle.command_results.specs.Stops.{stop_status};
 ghost use Rattle.commands.specs.Causes.{IsCause, describes, failed, reads_input, runs_script, takes_files};
 ghost use Rattle.commands.specs.Responses.{RespondsWith, Says, file_written};
-ghost use Rattle.describe_command.specs.Described.{form_of};
+ghost use Rattle.description_commands.specs.Described.{form_of};
 ghost use Rattle.requests.specs.Requests.{request_of};
 
 use catalogue_command::act;
-use certify_command::certify;
-use check_command::check;
+use solve_command::{certify, series, solve, solve_infinite, solve_lines, solve_many};
+use given_quotients::check;
 use command_results::{Noted, Said, Stop};
-use compare_command::compare;
-use describe_command::describe;
+use description_commands::{compare, describe, present, show};
 use descriptions::Form;
-use explain_command::explain;
-use folders::Folder;
-use infinite_command::{infinite, play_infinite, play_infinite_lines, show_infinite};
-use play_command::{play, play_lines};
-use position_commands::{all_wins, apart, value};
-use present_command::present;
+use verdict_commands::{explain, infinite, play_infinite, play_infinite_lines, show_infinite, tail, verify};
+use streams::{Folder, Source};
+use position_commands::{all_wins, apart, play, play_lines, value};
 use requests::Plan;
-use series_command::series;
-use show_command::show;
-use solve_command::{solve, solve_lines, solve_many};
-use solve_infinite_command::solve_infinite;
 use std::alloc::Global;
-use streams::Source;
-use tail_command::tail;
-use verify_command::verify;
 
 /// The form of relations that is asked for.
 fn form_of(basis: bool) -> Form

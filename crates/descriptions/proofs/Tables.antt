@@ -5,7 +5,7 @@ use Rattle.std.proofs.lemmas.Bool.{cases_eq}
 use Rattle.misere_theory.specs.Certificates.{Certificate, claim_of, times_of}
 use Rattle.misere_theory.specs.Quotients.{Monoid}
 use Rattle.monoid_table.specs.Grids.{Grid, IsShaped, IsTable, entry, times_in}
-use Rattle.pretending.specs.Tables.{Agrees}
+use Rattle.monoid_table.specs.PretendingTables.{Agrees}
 use Rattle.certificate.specs.Fields.{grid_of, pretending_of}
 use Rattle.descriptions.specs.Invariants.{Divides, IsInKernel}
 

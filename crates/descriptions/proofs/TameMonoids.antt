@@ -6,7 +6,7 @@ use Rattle.std.proofs.Math.Pow.{pow-lt}
 use Rattle.misere_theory.specs.Quotients.{Claim, Monoid, SameQuotient}
 use Rattle.misere_theory.specs.Certificates.{Certificate, claim_of, times_of}
 use Rattle.monoid_table.specs.Grids.{times_in}
-use Rattle.pretending.specs.Tables.{Agrees}
+use Rattle.monoid_table.specs.PretendingTables.{Agrees}
 use Rattle.certificate.specs.Fields.{grid_of, pretending_of}
 use Rattle.descriptions.specs.Tame.{IsTame, IsTameBy, AreIsomorphic}
 use Rattle.descriptions.specs.Tame.IsTame.{First, Next}

@@ -10,3 +10,6 @@ pub mod Free
 pub mod Steps
 pub mod RunLaws
 mod Reached
+pub mod Cuts
+pub mod Lines
+pub mod ReadLines

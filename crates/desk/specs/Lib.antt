@@ -5,3 +5,6 @@ pub mod Slots
 pub mod Desks
 pub mod Replies
 pub mod Deeds
+pub mod Scripts
+pub mod Steps
+pub mod Views

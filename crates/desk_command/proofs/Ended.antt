@@ -1,6 +1,6 @@
 -- How the run of a script ends, from how its steps do.
 use Rattle.std.proofs.Common.{◌≡◌, ◌≤◌, ℕ, List, Option, length, refl, subst}
-use Rattle.folders.specs.Files.{Holds}
+use Rattle.streams.specs.Files.{Holds}
 use Rattle.streams.specs.Printers.{Printer, PrintsLine}
 use Rattle.desk_command.specs.Ends.{EndsScript}
 use Rattle.desk_command.specs.Ends.EndsScript.{Whole, Broken}

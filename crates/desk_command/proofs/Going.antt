@@ -3,7 +3,7 @@ use Rattle.std.proofs.Common.{◌≡◌, ◌∙◌, ◌<◌, ℕ, List, [], ◌�
 use Rattle.std.specs.Io.KnownBytes.{Appends}
 use Rattle.streams.specs.Stream.{AppendsSome}
 use Rattle.desk.specs.Machine.{State}
-use Rattle.desk_script.specs.Steps.{Step}
+use Rattle.desk.specs.Steps.{Step}
 use Rattle.desk_command.specs.Scripts.{HaveClients, Takes}
 use Rattle.desk_command.specs.Stops.{Breaks}
 use Rattle.streams.specs.Printers.{Printer}

@@ -4,9 +4,9 @@ use Rattle.std.proofs.Math.Path.{fun_ext}
 use Rattle.check_machine.specs.Turns.{cost, verdict}
 use Rattle.desk.specs.Machine.{Call, Reply, State, Step as MachineStep}
 use Rattle.desk.specs.Runs.{Run, nothing_open}
-use Rattle.desk_script.specs.Scripts.{AreSteps}
-use Rattle.desk_script.specs.Scripts.AreSteps.{NoLine, Line}
-use Rattle.desk_script.specs.Steps.{Step}
+use Rattle.desk.specs.Scripts.{AreSteps}
+use Rattle.desk.specs.Scripts.AreSteps.{NoLine, Line}
+use Rattle.desk.specs.Steps.{Step}
 use Rattle.desk_command.specs.Calls.{AreCalls, IsCall}
 use Rattle.desk_command.specs.Lines.{AreLinesOf, IsLineOf}
 use Rattle.desk_command.specs.Scripts.{HasRunTo, HaveClients, HaveRun, Takes}

@@ -1,10 +1,10 @@
 -- The calls that a script's steps are. This project's own.
 use Rattle.std.specs.Prelude.{◌≡◌, ◌+◌, ⊤, ℕ, List, [], ◌∷◌, Option}
-use Rattle.folders.specs.Files.{BeginsWith}
+use Rattle.streams.specs.Files.{BeginsWith}
 use Rattle.desk.specs.Machine.{Call, Event}
 use Rattle.desk.specs.Machine.Event.{Open as Opening, Work as Working, Drop as Dropping, Ask as Asking, Play as Playing}
-use Rattle.desk_script.specs.Steps.{Step}
-use Rattle.desk_script.specs.Steps.Step.{Open, Work, Drop, Ask, Play}
+use Rattle.desk.specs.Steps.{Step}
+use Rattle.desk.specs.Steps.Step.{Open, Work, Drop, Ask, Play}
 use Rattle.verdict_texts.specs.declared.stream.TheConstants.{MOST_BYTES}
 
 abbrev pub call : ℕ → Event → Call

@@ -1,6 +1,6 @@
 -- How the run of a script ends: what was printed and told, and the status. This project's own.
 use Rattle.std.specs.Prelude.{◌≡◌, ◌≤◌, ℕ, List, Option, length}
-use Rattle.folders.specs.Files.{Holds}
+use Rattle.streams.specs.Files.{Holds}
 use Rattle.streams.specs.Printers.{Printer, PrintsLine}
 use Rattle.command_results.specs.Stops.{IsFileCause, stop_line}
 use Rattle.command_results.specs.declared.stop.Stop.{Stop}

@@ -2,7 +2,7 @@
 use Rattle.std.specs.Prelude.{◌≡◌, ℕ, List, [], ◌∷◌, ◌++◌, codes, decimal}
 use Rattle.positions.specs.declared.outcome.Outcome.{Outcome}
 use Rattle.positions.specs.declared.outcome.Outcome.TheVariants.{P, N}
-use Rattle.play_command.specs.Lines.{answer_line}
+use Rattle.position_commands.specs.PlayLines.{answer_line}
 use Rattle.verdict_texts.specs.Lines.{first_line}
 use Rattle.desk.specs.Machine.{Reply}
 use Rattle.desk.specs.Machine.Reply.{Opened, Going, VerdictIs, Dropped, OutcomeIs, AnswerIs, Full, NoJob, NotCertified, Beyond, NoMemory}

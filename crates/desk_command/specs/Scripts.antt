@@ -4,8 +4,8 @@ use Rattle.std.specs.Io.KnownBytes.{Appends}
 use Rattle.check_machine.specs.Turns.{cost, verdict}
 use Rattle.desk.specs.Machine.{Call, Reply, State, Step as MachineStep}
 use Rattle.desk.specs.Runs.{Run, nothing_open}
-use Rattle.desk_script.specs.Scripts.{AreSteps}
-use Rattle.desk_script.specs.Steps.{IsClient, Step, client_of}
+use Rattle.desk.specs.Scripts.{AreSteps}
+use Rattle.desk.specs.Steps.{IsClient, Step, client_of}
 use Rattle.desk_command.specs.Calls.{AreCalls, IsCall}
 use Rattle.desk_command.specs.Lines.{AreLinesOf, IsLineOf}
 

@@ -5,11 +5,11 @@ use Rattle.streams.specs.Stream.{AppendsSome}
 use Rattle.streams.specs.Printers.{Printer}
 use Rattle.command_results.specs.Stops.{stop_line}
 use Rattle.command_results.specs.declared.stop.Stop.TheVariants as stop
-use Rattle.desk_script.specs.Scripts.{AreSteps, IsFirstOther}
-use Rattle.desk_script.specs.Steps.{Step}
-use Rattle.desk_script.specs.Steps.Step.{Open}
-use Rattle.desk_script.specs.declared.fault.ScriptFault.{ScriptFault}
-use Rattle.desk_script.specs.declared.fault.ScriptFault.TheVariants as fault
+use Rattle.desk.specs.Scripts.{AreSteps, IsFirstOther}
+use Rattle.desk.specs.Steps.{Step}
+use Rattle.desk.specs.Steps.Step.{Open}
+use Rattle.desk.specs.declared.fault.ScriptFault.{ScriptFault}
+use Rattle.desk.specs.declared.fault.ScriptFault.TheVariants as fault
 use Rattle.desk_command.specs.Scripts.{HasRunTo}
 use Rattle.desk_command.specs.declared.stop.DeskStop.{DeskStop}
 use Rattle.desk_command.specs.declared.stop.DeskStop.TheVariants.{NotAStep, Read, Write, Memory}

@@ -5,7 +5,7 @@ ghost use Rattle.desk_command.specs.Lines.{IsLineOf, opened_line, outcome_line};
 
 use allocation::Memory;
 use desk::{Reply, StepFault};
-use play_command::answer_text;
+use position_commands::answer_text;
 use player::Outcome;
 use std::alloc::Global;
 use verdict_texts::verdict_line;

@@ -3,17 +3,15 @@ ghost use Rattle.std.specs.Prelude.{◌≡◌, ℕ, List, [], None, IfErr, IfOk}
 ghost use Rattle.std.specs.Io.KnownBytes.{Appends};
 ghost use Rattle.streams.specs.Printers.{printer};
 ghost use Rattle.desk.specs.Desks.{state_of};
-ghost use Rattle.desk_script.specs.Views.{steps_of};
+ghost use Rattle.desk.specs.Views.{steps_of};
 ghost use Rattle.desk_command.specs.Scripts.{HasRunTo, HaveClients, Runs};
 ghost use Rattle.desk_command.specs.Stops.{Breaks, IsStop};
 
 use crate::stepping::take_step;
 use crate::stop::DeskStop;
-use desk::Desk;
-use desk_script::{Step, read_script};
-use folders::Folder;
+use desk::{Desk, Step, read_script};
+use streams::{Folder, Sink, write_whole};
 use std::alloc::Global;
-use streams::{Sink, write_whole};
 
 /// Takes the steps at a new desk, one after another, and prints the line of each.
 fn run_steps<'a, F: Folder, W: Sink>(

@@ -2,17 +2,16 @@
 ghost use Rattle.std.specs.Prelude.{◌≡◌, IfErr, IfOk, string_bytes};
 ghost use Rattle.desk.specs.Desks.{state_of};
 ghost use Rattle.desk.specs.Replies.{event_of};
-ghost use Rattle.desk_script.specs.Steps.{IsClient, client_of};
-ghost use Rattle.desk_script.specs.Views.{step_of};
+ghost use Rattle.desk.specs.Steps.{IsClient, client_of};
+ghost use Rattle.desk.specs.Views.{step_of};
 ghost use Rattle.desk_command.specs.Calls.{IsCall, call};
 ghost use Rattle.desk_command.specs.Scripts.{Takes};
 ghost use Rattle.desk_command.specs.Stops.{IsStepCause};
 
 use crate::lines::reply_line;
 use crate::stop::{DeskStop, read_front};
-use desk::{Client, Desk, Event};
-use desk_script::Step;
-use folders::Folder;
+use desk::{Client, Desk, Event, Step};
+use streams::Folder;
 use std::alloc::Global;
 
 /// Whose step it is, and what is asked: a file is read now.

@@ -1,17 +1,16 @@
 //! Why a script ends before its end, and the reading of files.
 ghost use Rattle.std.specs.Prelude.{◌≡◌, ◌≤◌, ◌+◌, ◌++◌, IfErr, IfOk, codes, decimal};
 ghost use Rattle.streams.specs.Printers.{PrintsLine, printer};
-ghost use Rattle.folders.specs.Files.{BeginsWith};
+ghost use Rattle.streams.specs.Files.{BeginsWith};
 ghost use Rattle.verdict_texts.specs.declared.stream.TheConstants.{MOST_BYTES};
 ghost use Rattle.desk_command.specs.Stops.{IsReadCause, desk_stop_line, desk_stop_status, stop_of};
 ghost use Rattle.desk_command.specs.declared.stop.DeskStop.TheVariants.{«Memory» as OutOfMemory, Write as NotWritten};
 
 use allocation::Memory;
 use command_results::{Stop, tell};
-use desk_script::ScriptFault;
-use folders::{FileFault, Folder};
+use desk::ScriptFault;
+use streams::{DeviceFault, FileFault, Folder, Sink};
 use itoa::Buffer;
-use streams::{DeviceFault, Sink};
 use verdict_texts::MOST_BYTES;
 
 /// Why a script ends before its end.

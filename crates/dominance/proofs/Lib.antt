@@ -14,3 +14,5 @@ pub mod Periods
 pub mod Larger
 pub mod Farther
 pub mod Finite
+pub mod Values
+pub mod Normal

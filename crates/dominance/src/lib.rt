@@ -10,6 +10,9 @@
 //! | `specs/Finite` | claims whose triples repeat with a period, and of which heaps the tests are enough |
 //! | `src/` | the laws |
 //! | `proofs/` | the lemmas, and beside them a folder for each law |
+//!
+//! `specs/Words` has the monoid U by generators and relations: the presentation of the misère quotient of 0.26 and of
+//! other whole games.
 #![tactic(auto)]
 
 ghost use Rattle.std.specs.Prelude.{◌≡◌, ◌<◌, ◌↔◌, ◌++◌, ℕ, Bool, true, List};
@@ -21,6 +24,10 @@ ghost use Rattle.dominance.specs.Triples.{Triple, nothing, times, is_p, IsElemen
 ghost use Rattle.dominance.specs.Tested.{State, AreTested};
 ghost use Rattle.dominance.specs.Quotient.{ArePredicting, HasRulers, HasAllRulers};
 ghost use Rattle.dominance.specs.Finite.{Extent, is_listed, AreTestedBelow, HasSmallWins};
+
+mod triple_words;
+
+pub use triple_words::triples_are_presented;
 
 /// The elements of U are a commutative monoid; the triple of a sum of positions is the product of theirs, and
 /// its lead isn't 0 exactly where one heap rules the others.

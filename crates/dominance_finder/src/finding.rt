@@ -6,7 +6,7 @@ use crate::drafting::drafted;
 use crate::labels::Repeat;
 use crate::reading::labels_of;
 use allocation::{Memory, SmallAllocator};
-use infinite_answers::InfiniteRefusal;
+use answers::InfiniteRefusal;
 use octal_code::Code;
 use quotient_search::{Guesses, Halt, Work};
 use std::alloc::Allocator;

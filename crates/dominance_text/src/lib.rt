@@ -1,10 +1,17 @@
 //! The text of whole games in which one heap may rule all others: which bytes spell which claim, as
-//! definitions, and their laws.
+//! definitions, their laws, and the reader.
 //!
 //! `SpellsDominance` (specs/Spelling.antt) is the one text of what is said (`DominanceSaid`,
 //! specs/Said.antt), and `label_of` (specs/Labels.antt) the triple that it gives to each heap;
-//! `said_at` (specs/Reading.antt) reads from left to right. Nothing here runs.
+//! `said_at` (specs/Reading.antt) reads from left to right.
 #![tactic(auto)]
+
+mod reading;
+mod text;
+
+pub use certificate_lines::{Reader, TextFault};
+pub use reading::{read, read_from};
+pub use text::DominanceText;
 
 /// How many heaps have numbers of their own at most, in front of those that repeat them.
 pub const MOST_LABELS: u16 = 1024;

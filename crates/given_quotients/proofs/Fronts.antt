@@ -7,7 +7,7 @@ use Rattle.certificate_text.specs.Spelling.{Spells}
 use Rattle.answers.specs.ByteVerdicts.{IsTrueOf}
 use Rattle.answers.specs.ByteVerdicts.ByteVerdict.{Memory, Yes}
 use Rattle.check_machine.specs.Turns.{verdict}
-use Rattle.check_command.specs.Checks.{IsFrontOf, IsYes, SaysVerdict}
+use Rattle.given_quotients.specs.Checks.{IsFrontOf, IsYes, SaysVerdict}
 use Rattle.given_quotients.specs.Told.{BeginsWhole, BeginsPresented}
 use Rattle.given_quotients.specs.Given.{FindsQuotient, JudgesQuotient, RefusesBy}
 use Rattle.given_quotients.specs.declared.giving.Quotient.{Quotient}

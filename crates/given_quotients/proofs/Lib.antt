@@ -1,2 +1,5 @@
 mod Answered
 mod Fronts
+mod CheckAnswered
+mod Given
+mod Lengths

@@ -4,7 +4,7 @@ use Rattle.std.specs.Prelude.{ℕ, false, List, Result, Ok, Err, Vec}
 use Rattle.dominance_text.specs.Said.{DominanceSaid}
 use Rattle.dominance_text.specs.Spelling.{SpellsDominance}
 use Rattle.whole_checker.specs.Solved.{IsSolved}
-use Rattle.check_command.specs.Checks.{IsYes, SaysVerdict}
+use Rattle.given_quotients.specs.Checks.{IsYes, SaysVerdict}
 use Rattle.presented_text.specs.Spelling.{SpellsPresented}
 use Rattle.presented_checker.specs.Refused.{Kept, IsRight}
 use Rattle.given_quotients.specs.Told.{BeginsWhole, BeginsPresented, TellsRefused, TellsWhole}

@@ -1,2 +1,3 @@
 pub mod Told
 pub mod Given
+pub mod Checks

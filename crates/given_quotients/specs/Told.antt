@@ -6,7 +6,7 @@ use Rattle.certificate_text.specs.declared.TheConstants.{LONGEST_TEXT}
 use Rattle.dominance_text.specs.Said.{DominanceSaid}
 use Rattle.dominance_text.specs.Spelling.{SpellsDominance}
 use Rattle.answers.specs.ByteVerdicts.ByteVerdict.{Outcome as Refuted}
-use Rattle.infinite_answers.specs.Answers.{Why, Text, Law, Outcome, Limit, Memory, Part, Undecided, Finite}
+use Rattle.answers.specs.InfiniteAnswers.{Why, Text, Law, Outcome, Limit, Memory, Part, Undecided, Finite}
 use Rattle.verdict_texts.specs.Lines.{IsTextOf, no_line}
 use Rattle.whole_checker.specs.Solved.{IsSolved, IsRefutedWhole}
 use Rattle.presented_checker.specs.Refused.{IsTrueOfBytes}

@@ -1,19 +1,18 @@
 //! Quotients out of files.
 ghost use Rattle.std.specs.Prelude.{◌≡◌, false, IfOk, IfErr, is_none, is_some, option_map};
-ghost use Rattle.check_command.specs.Checks.{AreGiven, IsGivenCause, Judges, failed};
+ghost use Rattle.given_quotients.specs.Checks.{AreGiven, IsGivenCause, Judges, failed};
 ghost use Rattle.given_quotients.specs.Given.{FindsQuotient, JudgesQuotient};
 
 use crate::presented::{begins_presented, judged_presented};
 use crate::whole::{begins_whole, judged_whole};
 use allocation::Memory;
 use answers::Certified;
-use check_command::{fronts_decide, given_bytes};
+use crate::{fronts_decide, given_bytes};
 use checker::{check, verdicts_are_true};
 use command_results::Stop;
-use folders::Folder;
+use streams::{Folder, Source};
 use presented_checker::PresentedQuotient;
 use std::alloc::Global;
-use streams::Source;
 use verdict_texts::verdict_text;
 use whole_checker::WholeGame;
 

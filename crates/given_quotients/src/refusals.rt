@@ -1,13 +1,12 @@
 //! The texts of refusals.
 ghost use Rattle.std.specs.Prelude.{◌≡◌, IfOk};
 ghost use Rattle.std.specs.String.{string_bytes};
-ghost use Rattle.infinite_answers.specs.Refusals.{refused};
+ghost use Rattle.answers.specs.InfiniteRefusals.{refused};
 ghost use Rattle.given_quotients.specs.Told.{IsRefusalText};
 ghost use Rattle.verdict_texts.specs.Lines.{no_line};
 
 use allocation::Memory;
-use answers::Refusal;
-use infinite_answers::InfiniteRefusal;
+use answers::{InfiniteRefusal, Refusal};
 use std::alloc::Global;
 use verdict_texts::verdict_text;
 

@@ -1,7 +1,7 @@
 -- The shape of a guessed quotient. This project's own.
 use Rattle.std.specs.Prelude.{◌≡◌, ◌⊎◌, ◌↔◌, ◌*◌, ◌<◌, ◌≤◌, ℕ, List, length, All, Bool, true}
-use Rattle.periods.specs.Evidence.{IsShown, IsSoonestPeriod}
-use Rattle.periods.specs.Periods.{HasNoPeriod}
+use Rattle.quotient_search.specs.Evidence.{IsShown, IsSoonestPeriod}
+use Rattle.quotient_search.specs.Periods.{HasNoPeriod}
 
 -- Products in flat rows of an order, a mark for each element, and the elements of the heaps 1, 2,
 -- .., of which there are at most so many.

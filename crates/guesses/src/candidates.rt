@@ -1,7 +1,7 @@
 //! From where on, and after how many heaps, guessed elements may repeat.
 use crate::guess::Guess;
 use allocation::Memory;
-use periods::least_period;
+use quotient_search::least_period;
 use std::alloc::Global;
 
 /// A start and a period.

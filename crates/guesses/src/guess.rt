@@ -4,8 +4,7 @@ ghost use Rattle.guesses.specs.Guesses.{IsWellFormed, IsPeriodOrNone, IsPeriodGu
 
 use allocation::Memory;
 use octal_code::Code;
-use periods::{is_shown, soonest_period};
-use quotient_search::HeapQuotient;
+use quotient_search::{HeapQuotient, is_shown, soonest_period};
 use std::alloc::{Allocator, Global};
 
 /// A guessed quotient of a game restricted to the heaps 1 to `heaps.len()`, of which nothing is

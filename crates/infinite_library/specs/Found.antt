@@ -2,7 +2,7 @@
 use Rattle.std.specs.Prelude.{◌≡◌, ◌⊎◌, ℕ, ◌≤◌, Bool, true, false, List}
 use Rattle.misere_theory.specs.declared.TheConstants.{LARGEST_PART}
 use Rattle.solve_command.specs.Solved.{IsNoCode}
-use Rattle.solve_infinite_command.specs.Asked.{IsFound}
+use Rattle.solve_command.specs.Asked.{IsFound}
 
 -- how far the heaps go is in the range that it has on a command line
 abbrev pub AreInRange : ℕ → Type 0

@@ -4,20 +4,17 @@ ghost use Rattle.std.specs.Prelude.{◌≡◌, ◌≢◌, ◌≤◌, ◌<◌, �
 ghost use Rattle.std.specs.declared.option.Option.TheVariants.{None, Some};
 ghost use Rattle.infinite_library.specs.Found.{IsPresentedOf, IsToldOf, IsUntold};
 ghost use Rattle.infinite_queries.specs.Asked.{AreNoAnswers, AreRefused, AreShown, FailsAt, IsNoAnswer, IsNoAnswerToMany, TellsAnswer, TellsOutcome};
-ghost use Rattle.infinite_texts.specs.Described.{IsOpenedCode, IsOpenedText, IsOpenedUntold};
-ghost use Rattle.infinite_texts.specs.Valued.{IsOpenedUnvalued, IsOpenedValue};
-ghost use Rattle.opened_infinite.specs.Texts.{kind_of, order_of};
-ghost use Rattle.told_answers.specs.Asked.{IsOpened, IsUnopened, IsUnshared};
-ghost use Rattle.told_answers.specs.Many.{TellAll};
+ghost use Rattle.infinite_queries.specs.Described.{IsOpenedCode, IsOpenedText, IsOpenedUntold};
+ghost use Rattle.infinite_queries.specs.Valued.{IsOpenedUnvalued, IsOpenedValue};
+ghost use Rattle.opened.specs.Texts.{kind_of, order_of};
+ghost use Rattle.player.specs.Asked.{IsOpened, IsUnopened, IsUnshared};
+ghost use Rattle.player.specs.Many.{TellAll};
 
 use crate::solving::{solve, solve_presented};
-use infinite_queries::{
-    answer, answers, check, close, failure, kind, open, order, outcome, outcomes, share,
-};
-use infinite_texts::{code, describe, value};
-use opened_infinite::OpenedInfinite;
+use infinite_queries::{answer, answers, check, close, code, describe, failure, kind, open, order, outcome, outcomes, share, value};
+use opened::OpenedInfinite;
 use std::alloc::Global;
-use told_answers::MisereAnswer;
+use player::MisereAnswer;
 
 /// Whether the bytes are an accepted text of a whole game, whose quotient is infinite, or an accepted presentation, whose
 /// quotient may be finite: 0, or the number of the refusal.

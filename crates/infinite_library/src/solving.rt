@@ -1,14 +1,14 @@
 //! The search for an infinite quotient.
 ghost use Rattle.std.specs.Prelude.{◌≡◌, ◌≢◌, ◌↔◌, ◌<◌, ℕ, Bool, List, true, false, IfOk, IfErr, IsTrue, length, take};
 ghost use Rattle.infinite_library.specs.Found.{AreInRange, IsPresentedOf, IsToldOf, IsUntold};
-ghost use Rattle.solve_infinite_command.specs.Asked.{IsFound};
+ghost use Rattle.solve_command.specs.Asked.{IsFound};
 
 use command_results::{Said, Stop};
-use infinite_texts::hand_over;
+use infinite_queries::hand_over;
 use misere_theory::LARGEST_PART;
-use solve_infinite_command::{present_infinite_bytes, solve_infinite_bytes};
+use solve_command::{present_infinite_bytes, solve_infinite_bytes};
 use std::alloc::Global;
-use told_answers::{DONE, MEMORY, NOT_IN_RANGE};
+use player::{DONE, MEMORY, NOT_IN_RANGE};
 
 /// The text is no code's.
 const NOT_A_CODE: u32 = 12;

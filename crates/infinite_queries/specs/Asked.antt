@@ -4,22 +4,22 @@ use Rattle.std.specs.List.Sorted.{IsNonDecreasing}
 use Rattle.std.specs.declared.option.Option.{Option}
 use Rattle.misere_theory.specs.Games.{IsHeap, IsPosition}
 use Rattle.dominance_text.specs.Spelling.{SpellsDominance}
-use Rattle.infinite_answers.specs.Answers.{Why, Text, Outcome as Fails}
+use Rattle.answers.specs.InfiniteAnswers.{Why, Text, Outcome as Fails}
 use Rattle.whole_checker.specs.Solved.{IsRefutedWhole, IsSolved}
 use Rattle.presented_text.specs.Spelling.{SpellsPresented}
 use Rattle.presented_tables.specs.Tested.{HasWord}
 use Rattle.presented_checker.specs.Refused.{IsRight, IsTrueOfBytes}
-use Rattle.opened_infinite.specs.Texts.{code_of}
-use Rattle.opened_infinite.specs.declared.text.AcceptedText.{AcceptedText}
-use Rattle.opened_infinite.specs.declared.text.AcceptedText.TheVariants.{Whole, Presented}
+use Rattle.opened.specs.Texts.{code_of}
+use Rattle.opened.specs.declared.text.AcceptedText.{AcceptedText}
+use Rattle.opened.specs.declared.text.AcceptedText.TheVariants.{Whole, Presented}
 use Rattle.positions.specs.Positions.{IsSize}
 use Rattle.positions.specs.Outcomes.{HasOutcome}
 use Rattle.positions.specs.declared.outcome.Outcome.{Outcome}
 use Rattle.player.specs.Answers.{IsTriedAnswer}
 use Rattle.player.specs.declared.answering.Answer.{Answer}
-use Rattle.told_answers.specs.Numbers.{outcome_number, IsAnswerOf}
-use Rattle.told_answers.specs.Asked.{AreNoEnds, CutInto, IsNoPosition, IsOpened, IsUnopened}
-use Rattle.told_answers.specs.declared.numbers.MisereAnswer.{MisereAnswer}
+use Rattle.player.specs.Numbers.{outcome_number, IsAnswerOf}
+use Rattle.player.specs.Asked.{AreNoEnds, CutInto, IsNoPosition, IsOpened, IsUnopened}
+use Rattle.player.specs.declared.numbers.MisereAnswer.{MisereAnswer}
 use Rattle.infinite_queries.specs.Numbers.{status_of}
 
 -- ---- bytes

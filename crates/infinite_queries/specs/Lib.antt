@@ -1,2 +1,4 @@
 pub mod Numbers
 pub mod Asked
+pub mod Described
+pub mod Valued

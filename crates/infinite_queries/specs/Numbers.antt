@@ -1,6 +1,6 @@
 -- The numbers of refusals of whole games and presentations. This project's own.
 use Rattle.std.specs.Prelude.{ℕ}
-use Rattle.infinite_answers.specs.Answers.{Why, Text, Law, Outcome, Limit, Memory, Part, Undecided, Finite}
+use Rattle.answers.specs.InfiniteAnswers.{Why, Text, Law, Outcome, Limit, Memory, Part, Undecided, Finite}
 
 -- the number of a refusal
 abbrev pub status_of : Why → ℕ

@@ -3,14 +3,14 @@ ghost use Rattle.std.specs.List.Sorted.{IsNonDecreasing};
 ghost use Rattle.std.specs.Prelude.{◌≡◌, ◌≢◌, All, IfOk, IfErr, OnOk, OnErr, IsPermutation, length};
 ghost use Rattle.positions.specs.Positions.{IsSize};
 ghost use Rattle.infinite_queries.specs.Asked.{AreUnanswered, IsSpokenOf, IsUnanswered, TellsAnswer, TellsOutcome};
-ghost use Rattle.told_answers.specs.Many.{AreEnds};
+ghost use Rattle.player.specs.Many.{AreEnds};
 
 use crate::kinds::{rising_answer, speaks, winner};
 use allocation::Memory;
-use opened_infinite::AcceptedText;
+use opened::AcceptedText;
 use positions::Position;
 use std::alloc::Global;
-use told_answers::{
+use player::{
     BEYOND, MisereAnswer, NOT_A_HEAP, NOT_ENDS, are_ends, are_sizes, number, position_of, told,
 };
 

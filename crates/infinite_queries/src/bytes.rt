@@ -1,15 +1,15 @@
 //! What is asked of the bytes of a text.
 ghost use Rattle.std.specs.Prelude.{◌≡◌, ◌≢◌, ◌≤◌, ◌<◌, ◌↔◌, IfOk, IfErr, IsTrue, ℕ, List, length, take};
-ghost use Rattle.infinite_answers.specs.Refusals.{refused};
+ghost use Rattle.answers.specs.InfiniteRefusals.{refused};
 ghost use Rattle.infinite_queries.specs.Numbers.{status_of};
 ghost use Rattle.infinite_queries.specs.Asked.{AreRefused, AreShown, BeginsPresented, FailsAt, IsShownBy, IsTrueOfKinds};
 
-use infinite_answers::InfiniteRefusal;
-use opened_infinite::AcceptedText;
+use answers::InfiniteRefusal;
+use opened::AcceptedText;
 use positions::Position;
 use presented_checker::check_presented;
 use std::alloc::Global;
-use told_answers::{DONE, OUTCOME, put};
+use player::{DONE, OUTCOME, put};
 use whole_checker::judge_whole;
 
 /// The number of a refusal.

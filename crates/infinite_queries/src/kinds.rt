@@ -1,17 +1,16 @@
 //! What is asked of an accepted text, of whichever kind it is.
 ghost use Rattle.std.specs.Prelude.{◌≡◌, ◌↔◌, All, IsTrue};
 ghost use Rattle.std.specs.List.Sorted.{IsNonDecreasing};
-ghost use Rattle.opened_infinite.specs.Texts.{code_of, kind_of, last_of, number_or_none, order_of};
+ghost use Rattle.opened.specs.Texts.{code_of, kind_of, last_of, number_or_none, order_of};
 ghost use Rattle.positions.specs.Outcomes.{HasOutcome};
 ghost use Rattle.positions.specs.Positions.{IsSize};
 ghost use Rattle.infinite_queries.specs.Asked.{IsAnswerIn, SpeaksOf};
 
-use infinite_player::{whole_answer_at, whole_outcome_at};
-use opened_infinite::AcceptedText;
+use label_players::{presented_answer_at, presented_outcome_at, speaks_of, whole_answer_at, whole_outcome_at};
+use opened::AcceptedText;
 use player::Answer;
 use positions::Outcome;
 use presented_checker::PresentedQuotient;
-use presented_player::{presented_answer_at, presented_outcome_at, speaks_of};
 
 /// Whether the text speaks of each of these heaps, which stand in any order.
 pub(crate) fn speaks(shown: &AcceptedText, heaps: &[u64]) -> bool

@@ -1,5 +1,5 @@
-//! What is asked of an infinite quotient, or of one that generators and relations present, in numbers, as it is asked from
-//! C: by the bytes of its text, of a whole game or a presentation, or once these were opened. The static library
+//! What is asked of a whole game, or of a quotient that generators and relations present, as it is asked from C: outcomes,
+//! moves, words of positions and descriptions, by the bytes of a text or once it was opened. The static library
 //! `infinite_library` hands it out.
 //!
 //! What is opened was checked once, and keeps the checker's theorem. The caller owns all other memory.
@@ -7,11 +7,15 @@
 
 mod asking;
 mod bytes;
+mod describing;
 mod kinds;
 mod many;
 mod opening;
 mod queries;
+mod valuing;
 
 pub use bytes::{check, failure};
+pub use describing::{code, describe, hand_over};
 pub use opening::{close, open, share};
 pub use queries::{answer, answers, kind, order, outcome, outcomes};
+pub use valuing::value;

@@ -2,13 +2,13 @@
 ghost use Rattle.std.specs.Prelude.{◌≡◌, ◌≢◌, ◌⊎◌, All, IfOk, IfErr, length};
 ghost use Rattle.positions.specs.Positions.{IsSize};
 ghost use Rattle.infinite_queries.specs.Asked.{AreUnanswered, IsSpokenOf, TellsAnswer, TellsOutcome};
-ghost use Rattle.told_answers.specs.Many.{AreEnds, TellAll};
+ghost use Rattle.player.specs.Many.{AreEnds, TellAll};
 
 use crate::asking::{all_fit, answer_of, outcome_of};
 use allocation::Memory;
-use opened_infinite::AcceptedText;
+use opened::AcceptedText;
 use std::alloc::Global;
-use told_answers::{DONE, MEMORY, MisereAnswer, heaps_at};
+use player::{DONE, MEMORY, MisereAnswer, heaps_at};
 
 /// Tells the outcome of each position.
 fn fill_outcomes(shown: &AcceptedText, heaps: &[u64], ends: &[u64], told: &mut [u32])

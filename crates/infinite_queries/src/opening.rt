@@ -2,13 +2,13 @@
 ghost use Rattle.std.specs.Prelude.{◌≡◌, ◌≢◌, IfOk, IfErr};
 ghost use Rattle.std.specs.declared.option.Option.TheVariants.{None, Some};
 ghost use Rattle.infinite_queries.specs.Asked.{AreRefused, AreShown};
-ghost use Rattle.told_answers.specs.Asked.{IsOpened, IsUnopened, IsUnshared};
+ghost use Rattle.player.specs.Asked.{IsOpened, IsUnopened, IsUnshared};
 
 use crate::bytes::shown;
 use allocation::Memory;
-use opened_infinite::{AcceptedText, InfiniteQuotient, OpenedInfinite};
+use opened::{AcceptedText, InfiniteQuotient, OpenedInfinite};
 use std::alloc::Global;
-use told_answers::{DONE, MEMORY, NOT_OPEN};
+use player::{DONE, MEMORY, NOT_OPEN};
 
 /// The first owner of the text, in a box.
 fn boxed(alloc: Global, shown: AcceptedText) -> Result<Box<InfiniteQuotient>, Memory>

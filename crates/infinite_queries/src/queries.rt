@@ -2,16 +2,16 @@
 ghost use Rattle.std.specs.List.Sorted.{IsNonDecreasing};
 ghost use Rattle.std.specs.Prelude.{◌≡◌, ◌≢◌, IfOk, IfErr, OnOk, OnErr, IsPermutation, length};
 ghost use Rattle.infinite_queries.specs.Asked.{AreNoAnswers, IsNoAnswer, IsNoAnswerToMany, TellsAnswer, TellsOutcome};
-ghost use Rattle.opened_infinite.specs.Texts.{kind_of, order_of};
-ghost use Rattle.told_answers.specs.Asked.{IsOpened, IsUnopened};
-ghost use Rattle.told_answers.specs.Many.{TellAll};
+ghost use Rattle.opened.specs.Texts.{kind_of, order_of};
+ghost use Rattle.player.specs.Asked.{IsOpened, IsUnopened};
+ghost use Rattle.player.specs.Many.{TellAll};
 
 use crate::asking::{answer_in, outcome_in};
 use crate::kinds::{kind_of, order_of};
 use crate::many::{answers_in, outcomes_in};
-use opened_infinite::OpenedInfinite;
+use opened::OpenedInfinite;
 use std::alloc::Global;
-use told_answers::{DONE, MisereAnswer, NOT_OPEN};
+use player::{DONE, MisereAnswer, NOT_OPEN};
 
 /// Tells of which heaps it speaks: 0 where of those of every size, and else the last one. Some before that
 /// may be left out.

@@ -3,3 +3,8 @@ pub mod NoneBad
 pub mod Movable
 pub mod Tested
 pub mod Told
+pub mod Below
+pub mod Positions
+pub mod Free
+pub mod Lifting
+pub mod Marked

@@ -1,14 +1,15 @@
 //! Claims over labels of any commutative monoid: what has to be tested of finitely many positions, so that the
-//! labels are the misère quotient, finite or infinite. Definitions, and laws, each the contract of a function
-//! that does nothing.
+//! labels are the misère quotient, finite or infinite; and the tests, in numbers.
 //!
 //! | Folder | What stands there |
 //! |---|---|
 //! | `specs/Kept` | positions that are bad beside a label, covered ones, and which ones are kept |
 //! | `specs/Telling` | when labels are told apart, if a context alone doesn't tell |
 //! | `specs/Presented` | all that has to be tested |
-//! | `src/` | the laws |
-//! | `proofs/` | the lemmas, and beside them a folder for each law |
+//! | `specs/Told`, `specs/Marks` | which classes a label tells apart, and when marks say which labels are in a portion |
+//! | `src/lib`, `src/laws`, `src/telling_laws` | the laws, each the contract of a function that does nothing |
+//! | `src/finding`, `src/tested`, .. | the rule by kept positions: an unproved search, and a proved test of what it found |
+//! | `src/contexts`, `src/telling` | an unproved search for few labels that tell all classes apart, and the test of them |
 #![tactic(auto)]
 
 ghost use Rattle.std.specs.Prelude.{◌≡◌, ◌↔◌, ◌++◌, ℕ, Bool, true, List};
@@ -18,6 +19,29 @@ ghost use Rattle.misere_theory.specs.Labels.{LabelClaim, AreLabels, label_of, sa
 ghost use Rattle.kept_positions.specs.Kept.{IsBadBeside, AreKept, AreNeverBad};
 ghost use Rattle.kept_positions.specs.Telling.{AreToldOrLowered};
 ghost use Rattle.kept_positions.specs.Presented.{AreTestedLabels};
+
+mod contexts;
+mod covers;
+mod entries;
+mod families;
+mod finding;
+mod laws;
+mod listed;
+mod marks;
+mod reads;
+mod slots;
+mod tables;
+mod telling;
+mod telling_laws;
+mod tested;
+mod testing;
+
+pub use finding::NotFound;
+pub use laws::{tested_families_are_never_bad, tested_positions_are_never_bad};
+pub use tables::{ClassTurns, KeptPositions, LabelTables};
+pub use telling::{NotTold, told_apart};
+pub use telling_laws::told_classes_are_told;
+pub use tested::{tested_families, tested_positions};
 
 /// A sum is bad beside a label exactly if each of its two parts is bad beside the product of this label with
 /// the other part's: so all that one part has to know of the other is its label.

@@ -3,11 +3,10 @@
 #![tactic(auto)]
 
 use command_results::{stopped, words_of};
-use folders::HostFolder;
+use streams::{HostFolder, ReaderSource, WriterSink};
 use std::process::ExitCode;
 use std::{env, io};
-use streams::{ReaderSource, WriterSink};
-use whole_runs::ended;
+use commands::ended;
 
 fn main(rt: HostRuntime) -> ExitCode {
     let mut err = WriterSink::new(rt.stderr());

@@ -2,7 +2,7 @@
 use Rattle.std.specs.Prelude.{◌≡◌, ◌⊎◌, ℕ, List}
 use Rattle.std.specs.declared.option.Option.{Option}
 use Rattle.misere_theory.specs.Certificates.{Certificate}
-use Rattle.told_answers.specs.Asked.{AreNoEnds, CutInto, IsNoPosition, IsOpened, IsUnopened}
+use Rattle.player.specs.Asked.{AreNoEnds, CutInto, IsNoPosition, IsOpened, IsUnopened}
 use Rattle.misere_library.specs.Queries.{LeavesOut}
 
 -- Why nothing is told of a position by this certificate.

@@ -12,9 +12,9 @@ use Rattle.positions.specs.Outcomes.{HasOutcome}
 use Rattle.positions.specs.declared.outcome.Outcome.{Outcome}
 use Rattle.player.specs.Answers.{IsRightAnswer, SpeaksOf}
 use Rattle.player.specs.declared.answering.Answer.{Answer}
-use Rattle.told_answers.specs.Numbers.{outcome_number, IsAnswerOf}
-use Rattle.told_answers.specs.Asked.{AreNoEnds, CutInto, IsNoPosition}
-use Rattle.told_answers.specs.declared.numbers.MisereAnswer.{MisereAnswer}
+use Rattle.player.specs.Numbers.{outcome_number, IsAnswerOf}
+use Rattle.player.specs.Asked.{AreNoEnds, CutInto, IsNoPosition}
+use Rattle.player.specs.declared.numbers.MisereAnswer.{MisereAnswer}
 use Rattle.misere_library.specs.Numbers.{status_of}
 
 -- The bytes are an accepted certificate, to which the verdict under the limit is yes, and of which

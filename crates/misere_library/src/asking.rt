@@ -5,19 +5,15 @@ ghost use Rattle.misere_theory.specs.Certificates.{IsHeapOf};
 ghost use Rattle.positions.specs.Positions.{IsSize};
 ghost use Rattle.misere_library.specs.Queries.{TellsAnswer};
 ghost use Rattle.misere_library.specs.Questions.{TellsAsked};
-ghost use Rattle.told_answers.specs.Many.{AreEnds};
+ghost use Rattle.player.specs.Many.{AreEnds};
 ghost use Rattle.misere_library.specs.Asked.{AreUnanswered, IsUnanswered};
 
 use crate::heaps::speaks_of;
 use allocation::Memory;
 use answers::Certified;
-use player::{answer, answer_at};
+use player::{BEYOND, DONE, MisereAnswer, NOT_A_HEAP, NOT_ENDS, answer, answer_at, are_ends, are_sizes, number, position_of, told};
 use positions::{Outcome, Position};
 use std::alloc::Global;
-use told_answers::{
-    BEYOND, DONE, MisereAnswer, NOT_A_HEAP, NOT_ENDS, are_ends, are_sizes, number, position_of,
-    told,
-};
 
 /// What is asked of a position, where a number tells it.
 #[derive(Clone, Copy)]

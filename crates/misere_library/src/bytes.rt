@@ -9,14 +9,14 @@ ghost use Rattle.positions.specs.Positions.{IsSize};
 ghost use Rattle.misere_library.specs.Numbers.{status_of};
 ghost use Rattle.misere_library.specs.Queries.{Certify, IsNo, IsNoToMany, IsStatus};
 ghost use Rattle.misere_library.specs.Questions.{TellsAsked};
-ghost use Rattle.told_answers.specs.Many.{AreEnds, TellAll};
+ghost use Rattle.player.specs.Many.{AreEnds, TellAll};
 
 use crate::asking::{Question, fit, number_at};
 use crate::many::fill;
 use answers::{Certified, Refusal};
 use checker::check;
 use std::alloc::Global;
-use told_answers::{DONE, NOT_A_HEAP, NOT_ENDS, are_ends, are_sizes};
+use player::{DONE, NOT_A_HEAP, NOT_ENDS, are_ends, are_sizes};
 
 /// The number of a refusal.
 pub(crate) fn status(refusal: &Refusal) -> u32

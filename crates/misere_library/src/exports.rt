@@ -1,14 +1,14 @@
 //! The calls.
 ghost use Rattle.std.specs.Prelude.{◌≡◌, ◌≢◌, ◌≤◌, ◌<◌, ℕ, List, length, take};
 ghost use Rattle.misere_library.specs.Queries.{Certify, FailsAt, IsNo, IsNoToMany, IsStatus, TellsOutcome, TellsValue, TellsAnswer};
-ghost use Rattle.told_answers.specs.Many.{TellAll};
+ghost use Rattle.player.specs.Many.{TellAll};
 
 use crate::asking::{Question, answer_of};
 use crate::bytes::{certified, certified_of, certified_of_all, status, tell, tell_all};
 use crate::many::fill_answers;
 use checker::{Refusal, check};
 use std::alloc::Global;
-use told_answers::{DONE, MEMORY, MisereAnswer, OUTCOME, put};
+use player::{DONE, MEMORY, MisereAnswer, OUTCOME, put};
 
 /// The version of these calls.
 #[unsafe(no_mangle)]

@@ -5,13 +5,13 @@ ghost use Rattle.positions.specs.Positions.{IsSize};
 ghost use Rattle.misere_library.specs.Queries.{TellsAnswer};
 ghost use Rattle.misere_library.specs.Questions.{TellsAsked};
 ghost use Rattle.misere_library.specs.Asked.{AreUnanswered};
-ghost use Rattle.told_answers.specs.Many.{AreEnds, TellAll};
+ghost use Rattle.player.specs.Many.{AreEnds, TellAll};
 
 use crate::asking::{Question, all_fit, answer_of, number_at};
 use allocation::Memory;
 use answers::Certified;
 use std::alloc::Global;
-use told_answers::{DONE, MEMORY, MisereAnswer, heaps_at};
+use player::{DONE, MEMORY, MisereAnswer, heaps_at};
 
 /// Tells what is asked of each position.
 pub(crate) fn fill(

@@ -4,15 +4,15 @@ ghost use Rattle.std.specs.Prelude.{◌≡◌, ◌≢◌, length};
 ghost use Rattle.std.specs.declared.option.Option.TheVariants.{None, Some};
 ghost use Rattle.misere_library.specs.Queries.{Certify, IsStatus, TellsOutcome, TellsValue, TellsAnswer};
 ghost use Rattle.misere_library.specs.Asked.{AreNoAnswers, IsNoAnswer, IsNoAnswerToMany};
-ghost use Rattle.told_answers.specs.Asked.{IsOpened, IsUnopened, IsUnshared};
-ghost use Rattle.told_answers.specs.Many.{TellAll};
+ghost use Rattle.player.specs.Asked.{IsOpened, IsUnopened, IsUnshared};
+ghost use Rattle.player.specs.Many.{TellAll};
 
 use crate::asking::{Question, answer_in};
 use crate::many::answer_all_in;
 use crate::opening::{another, owner, tell_all_opened, tell_opened};
 use opened::Opened;
 use std::alloc::Global;
-use told_answers::{DONE, MEMORY, MisereAnswer, NOT_OPEN};
+use player::{DONE, MEMORY, MisereAnswer, NOT_OPEN};
 
 /// Opens the quotient that the bytes certify, in place of what was opened there: 0, or the number of
 /// the refusal. The bytes aren't needed any more.

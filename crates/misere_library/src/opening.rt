@@ -3,8 +3,8 @@ ghost use Rattle.std.specs.Prelude.{◌≡◌, ◌≢◌, IfOk, IfErr, length};
 ghost use Rattle.misere_library.specs.Queries.{Certify, IsStatus};
 ghost use Rattle.misere_library.specs.Questions.{TellsAsked};
 ghost use Rattle.misere_library.specs.Asked.{IsNoAnswer, IsNoAnswerToMany};
-ghost use Rattle.told_answers.specs.Asked.{IsOpened};
-ghost use Rattle.told_answers.specs.Many.{TellAll};
+ghost use Rattle.player.specs.Asked.{IsOpened};
+ghost use Rattle.player.specs.Many.{TellAll};
 
 use crate::asking::{Question, tell_in};
 use crate::bytes::certified;
@@ -13,7 +13,7 @@ use allocation::Memory;
 use answers::{Certified, true_answers};
 use opened::{Opened, Quotient};
 use std::alloc::Global;
-use told_answers::{MEMORY, NOT_OPEN};
+use player::{MEMORY, NOT_OPEN};
 
 /// The first owner of the certificate, in a box.
 fn boxed(alloc: Global, certified: Certified) -> Result<Box<Quotient>, Memory>

@@ -2,7 +2,7 @@
 use Rattle.std.proofs.Common.{◌≡◌, ℕ, ◌+◌, ◌<◌, sym, ◌∙◌, ap, inl, inr, arith, subst}
 use Rattle.std.proofs.lemmas.Bool.{cases_eq}
 use Rattle.misere_theory.specs.Quotients.{Claim, Monoid}
-use Rattle.normal_play.specs.Tails.{IsInLeastIdeal, IsRegularKernel}
+use Rattle.nim_tails.specs.NormalTails.{IsInLeastIdeal, IsRegularKernel}
 use Rattle.nim_tails.specs.Tails.{IsSquareRoot}
 
 module _ (c : Claim) (m : Monoid c.order c.times) where

@@ -7,7 +7,7 @@ use Rattle.misere_theory.specs.Certificates.{Certificate, claim_of, kind_of}
 use Rattle.misere_theory.specs.Games.{IsPosition}
 use Rattle.misere_theory.specs.Kinds.{IsHeapIn}
 use Rattle.misere_theory.specs.Quotients.{value}
-use Rattle.normal_play.specs.Normal.{nim_sum}
+use Rattle.nim_tails.specs.Normal.{nim_sum}
 
 -- the sums of the first elements
 abbrev IsSumOf : Certificate → List ℕ → ℕ → ℕ → Type 0

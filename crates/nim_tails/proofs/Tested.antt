@@ -9,14 +9,14 @@ use Rattle.misere_theory.specs.Certificates.{Certificate, Accepted, claim_of, ki
 use Rattle.misere_theory.specs.Kinds.{IsHeapIn}
 use Rattle.misere_theory.proofs.Basics.{decided, either_way, never_no}
 use Rattle.misere_theory.proofs.Outcomes.{some_or_all_below}
-use Rattle.normal_play.specs.Normal.{AreNimValues}
-use Rattle.normal_play.specs.Tails.{IsInLeastIdeal, IsRegularKernel, HasTwoOutcomes, IsLongEnough}
-use Rattle.normal_play.proofs.Failed.{by_heap, by_zero}
-use Rattle.normal_play.proofs.Ideals.{multiple_of_kernel, kernel_of_multiple}
-use Rattle.normal_play.proofs.Beyond.{same}
-use Rattle.nim_values.specs.Values.{IsNimFault}
-use Rattle.nim_values.specs.declared.fault.NimFault.{NimFault}
-use Rattle.nim_values.specs.declared.fault.NimFault.TheVariants.{Large, Memory}
+use Rattle.nim_tails.specs.Normal.{AreNimValues}
+use Rattle.nim_tails.specs.NormalTails.{IsInLeastIdeal, IsRegularKernel, HasTwoOutcomes, IsLongEnough}
+use Rattle.nim_tails.proofs.Failed.{by_heap, by_zero}
+use Rattle.nim_tails.proofs.Ideals.{multiple_of_kernel, kernel_of_multiple}
+use Rattle.nim_tails.proofs.Beyond.{same}
+use Rattle.nim_tails.specs.Values.{IsNimFault}
+use Rattle.nim_tails.specs.declared.values_fault.NimFault.{NimFault}
+use Rattle.nim_tails.specs.declared.values_fault.NimFault.TheVariants.{Large, Memory}
 use Rattle.nim_tails.specs.Tails.{Counts, IsInside, IsLastOutside, IsTail, IsTailFault, AreElementSums, AgreesWith, IsOnlyZero, IsNormal, tail_fault_from}
 use Rattle.nim_tails.specs.Tails.Counts.{NoNumber, OneMore, NoMore}
 use Rattle.nim_tails.specs.declared.whole.Tail.{Tail}

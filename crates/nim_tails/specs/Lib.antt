@@ -1,1 +1,4 @@
 pub mod Tails
+pub mod Values
+pub mod Normal
+pub mod NormalTails

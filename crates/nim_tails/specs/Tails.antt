@@ -4,11 +4,11 @@ use Rattle.std.specs.Prelude.{◌≡◌, ℕ, ◌+◌, ◌≤◌, ◌<◌, ◌�
 use Rattle.misere_theory.specs.Certificates.{Certificate, claim_of, kind_of, phi_at, times_of}
 use Rattle.misere_theory.specs.Kinds.{IsHeapIn}
 use Rattle.misere_theory.specs.Quotients.{Claim}
-use Rattle.nim_values.specs.declared.TheConstants.{NIM_BOUND}
-use Rattle.nim_values.specs.declared.fault.NimFault.{NimFault}
-use Rattle.nim_values.specs.declared.fault.NimFault.TheVariants as nim
-use Rattle.normal_play.specs.Normal.{AreNimValues}
-use Rattle.normal_play.specs.Tails.{IsInLeastIdeal, IsNormalAbove, IsNormalKernel, AreNimSums, HasTwoOutcomes, IsLongEnough}
+use Rattle.nim_tails.specs.declared.TheConstants.{NIM_BOUND}
+use Rattle.nim_tails.specs.declared.values_fault.NimFault.{NimFault}
+use Rattle.nim_tails.specs.declared.values_fault.NimFault.TheVariants as nim
+use Rattle.nim_tails.specs.Normal.{AreNimValues}
+use Rattle.nim_tails.specs.NormalTails.{IsInLeastIdeal, IsNormalAbove, IsNormalKernel, AreNimSums, HasTwoOutcomes, IsLongEnough}
 use Rattle.nim_tails.specs.declared.whole.Tail.{Tail}
 use Rattle.nim_tails.specs.declared.fault.TailFault.{TailFault}
 use Rattle.nim_tails.specs.declared.fault.TailFault.TheVariants.{Full, Ideal, Length, Large, Nim, Zero, Memory}

@@ -2,15 +2,15 @@
 ghost use Rattle.std.specs.Prelude.{◌≡◌, ◌≢◌, ◌<◌, ◌≤◌, ◌+◌, ◌↔◌, ℕ, bit_xor, IfOk, IsTrue, MatchResult, All, length, slice_index};
 ghost use Rattle.std.specs.Option.{MatchOption};
 ghost use Rattle.misere_theory.specs.Certificates.{claim_of, kind_of, phi_at, times_of};
-ghost use Rattle.nim_values.specs.declared.TheConstants.{NIM_BOUND};
-ghost use Rattle.normal_play.specs.Normal.{AreNimValues};
-ghost use Rattle.normal_play.specs.Tails.{AreNimSums, IsRegularKernel};
+ghost use Rattle.nim_tails.specs.declared.TheConstants.{NIM_BOUND};
+ghost use Rattle.nim_tails.specs.Normal.{AreNimValues};
+ghost use Rattle.nim_tails.specs.NormalTails.{AreNimSums, IsRegularKernel};
 ghost use Rattle.nim_tails.specs.Tails.{AreElementSums, IsNormal, IsTailFault, AgreesWith, IsOnlyZero};
 
 use crate::fault::TailFault;
 use allocation::Memory;
 use answers::Certified;
-use nim_values::{nim_sum, nim_values};
+use crate::{nim_sum, nim_values};
 use std::alloc::Global;
 
 /// For each element the nim sum of the position that its keys spell.

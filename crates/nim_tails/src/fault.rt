@@ -4,7 +4,7 @@ ghost use Rattle.nim_tails.specs.declared.fault.TailFault.TheVariants.{Memory as
 ghost use Rattle.nim_tails.specs.Tails.{tail_fault_from, tail_fault_number, tail_fault_name, tail_fault_place};
 
 use allocation::Memory;
-use nim_values::NimFault;
+use crate::NimFault;
 use std::alloc::AllocFailed;
 
 /// Why a certificate doesn't show that its game is normal play beyond some heap. Each but the last is

@@ -2,7 +2,7 @@
 ghost use Rattle.std.specs.Option.{MatchOption};
 ghost use Rattle.std.specs.Prelude.{◌≡◌, ◌≢◌, ◌<◌, ◌≤◌, ◌↔◌, ℕ, IsTrue, MatchResult};
 ghost use Rattle.misere_theory.specs.Certificates.{claim_of, kind_of, phi_at, times_of};
-ghost use Rattle.normal_play.specs.Tails.{IsInLeastIdeal, IsRegularKernel};
+ghost use Rattle.nim_tails.specs.NormalTails.{IsInLeastIdeal, IsRegularKernel};
 ghost use Rattle.nim_tails.specs.Tails.{IsSquareRoot, Counts, IsTailFault};
 
 use crate::fault::TailFault;

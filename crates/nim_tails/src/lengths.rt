@@ -1,7 +1,7 @@
 //! Whether the heaps of a partial certificate go far enough.
 ghost use Rattle.std.specs.Prelude.{◌≡◌, ◌<◌, ◌≤◌, ◌↔◌, ℕ, IsBitSet, IsTrue};
 ghost use Rattle.misere_theory.specs.Games.{digit};
-ghost use Rattle.normal_play.specs.Tails.{IsLongEnough};
+ghost use Rattle.nim_tails.specs.NormalTails.{IsLongEnough};
 
 use octal_code::{Code, Leaving};
 

@@ -8,3 +8,4 @@ pub mod Products
 pub mod Finite
 pub mod Known
 pub mod RuleTables
+pub mod Reached

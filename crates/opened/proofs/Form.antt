@@ -1,7 +1,7 @@
 -- The form of a `Handle`, by which it has the walks of `owners`.
 use Rattle.std.proofs.Common.{refl}
 use denote.RattleType.{RattleType}
-use Rattle.owners.proofs.Handles.{Form}
+use Rattle.opened.proofs.Handles.{Form}
 use Rattle.opened.specs.contracts.handle.Handle as handle
 use Rattle.opened.specs.contracts.quotient.Quotient as quotient
 

@@ -1,1 +1,4 @@
 pub mod Form
+pub mod Values
+pub mod Handles
+pub mod InfiniteForm

@@ -4,11 +4,11 @@ ghost use Rattle.std.specs.declared.option.Option.{Option};
 ghost use Rattle.std.specs.declared.option.Option.TheVariants.{None, Some};
 ghost use Rattle.std.specs.Coded.{coded_option};
 ghost use Rattle.misere_theory.specs.Certificates.{Certificate};
-ghost use Rattle.owners.specs.Handing.{handle_owns};
+ghost use Rattle.opened.specs.Handing.{handle_owns};
 ghost use Rattle.opened.specs.contracts.quotient.Quotient.{the_row as quotient_row};
 
 use crate::quotient::Quotient;
-use owners::Loose;
+use crate::Loose;
 use std::alloc::Global;
 use std::marker::Model;
 use std::ptr::null_mut;

@@ -2,7 +2,7 @@
 ghost use Rattle.std.specs.Prelude.{◌≡◌};
 ghost use Rattle.std.specs.Option.{MatchOption};
 ghost use Rattle.std.specs.declared.option.Option.TheVariants.{None, Some};
-ghost use Rattle.owners.specs.Opening.{count_of};
+ghost use Rattle.opened.specs.Opening.{count_of};
 
 use crate::handle::Handle;
 use crate::quotient::Quotient;

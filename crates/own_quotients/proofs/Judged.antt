@@ -7,8 +7,8 @@ use Rattle.misere_theory.specs.Verdicts.Fault.{Law, Word, Order, Period, Apart}
 use Rattle.answers.specs.ByteVerdicts.ByteVerdict.{Yes, No, Outcome, Limit}
 use Rattle.answers.specs.declared.refusal.Refusal.{Refusal}
 use Rattle.answers.specs.declared.refusal.Refusal.TheVariants as no
-use Rattle.own_tables.specs.Tables.{Own}
-use Rattle.own_tables.specs.Carried.{IsCarried}
+use Rattle.own_quotients.specs.Tables.{Own}
+use Rattle.own_quotients.specs.Carried.{IsCarried}
 use Rattle.own_quotients.specs.Certified.{HasCertified, IsNumberingOf, IsRefusedAs}
 
 module _ (unique : (b : List ℕ) (c d : Certificate) → Spells b c → Spells b d → c ≡ d)

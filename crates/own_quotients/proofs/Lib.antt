@@ -1,1 +1,4 @@
 pub mod Judged
+pub mod ReachedLaws
+pub mod TextLaws
+mod Heaps

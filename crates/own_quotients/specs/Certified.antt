@@ -8,8 +8,8 @@ use Rattle.answers.specs.ByteVerdicts.ByteVerdict.{No, Outcome, Limit}
 use Rattle.misere_theory.specs.Verdicts.Fault.{Period}
 use Rattle.monoid_table.specs.Grids.{entry}
 use Rattle.monoid_table.specs.Light.{AssociatesAt}
-use Rattle.own_tables.specs.Tables.{Own, IsIdentity, AreNotCommuting, IsReached, AreNotAssociating, AreAlike}
-use Rattle.own_tables.specs.Carried.{IsCarried}
+use Rattle.own_quotients.specs.Tables.{Own, IsIdentity, AreNotCommuting, IsReached, AreNotAssociating, AreAlike}
+use Rattle.own_quotients.specs.Carried.{IsCarried}
 use Rattle.own_quotients.specs.declared.fault.CertifyFault.{CertifyFault}
 use Rattle.own_quotients.specs.declared.fault.CertifyFault.TheVariants.{NoIdentity, NotCommuting, Unreached, NotAssociating, Alike, Refused, NoDraft, Memory}
 

@@ -1,14 +1,14 @@
 //! Tables, certified.
 ghost use Rattle.std.specs.Prelude.{◌<◌, ℕ, IfErr, IfOk, OnOk};
 ghost use Rattle.answers.specs.ByteVerdicts.{refused};
-ghost use Rattle.own_tables.specs.Tables.{IsIdentity, Own};
+ghost use Rattle.own_quotients.specs.Tables.{IsIdentity, Own};
 ghost use Rattle.own_quotients.specs.Certified.{HasCertified, IsFaultOf, IsNumberingOf, IsRefusedAs, PassesLaws};
 
 use crate::draft::draft;
 use crate::fault::CertifyFault;
 use crate::numbering::{Numbering, numbering_in};
 use checker::{Certified, Refusal, check};
-use own_tables::{OwnTable, alike, identity, not_associating, not_commuting, unreached};
+use crate::{OwnTable, alike, identity, not_associating, not_commuting, unreached};
 use std::alloc::Global;
 
 /// A table that is certified.

@@ -4,7 +4,7 @@ ghost use Rattle.std.specs.Prelude.{ℕ, ◌<◌};
 use allocation::Memory;
 use guesses::{Drafts, Guess};
 use misere_theory::LARGEST_ORDER;
-use own_tables::OwnTable;
+use crate::OwnTable;
 use std::alloc::Global;
 
 /// The element with 0 and the identity in each other's place.

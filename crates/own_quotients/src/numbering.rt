@@ -1,11 +1,11 @@
 //! The numbers that a certificate gives the elements of a table.
 ghost use Rattle.std.specs.Prelude.{◌<◌, IfOk, IfSome};
-ghost use Rattle.own_tables.specs.Carried.{IsCarried};
+ghost use Rattle.own_quotients.specs.Carried.{IsCarried};
 ghost use Rattle.own_quotients.specs.Certified.{IsNumberingOf};
 
 use allocation::Memory;
 use certificate::{Cert, Key, TextFault, read};
-use own_tables::{OwnTable, is_carried};
+use crate::{OwnTable, is_carried};
 use std::alloc::Global;
 
 /// The number of each element, and the element of each number.

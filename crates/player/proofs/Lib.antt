@@ -7,3 +7,4 @@ mod Few
 mod Fitting
 mod Inside
 mod OneAnswer
+pub mod Entries

@@ -5,7 +5,7 @@ use Rattle.command_results.specs.declared.said.Said.{Said}
 use Rattle.dominance_text.specs.Said.{DominanceSaid}
 use Rattle.given_quotients.specs.declared.giving.Quotient.{Quotient}
 use Rattle.given_quotients.specs.declared.giving.Quotient.TheVariants.{Finite, Whole, Presented}
-use Rattle.play_command.specs.Lines.{beyond_line}
+use Rattle.position_commands.specs.PlayLines.{beyond_line}
 use Rattle.position_commands.specs.Kinds.{SpeaksIn}
 use Rattle.position_commands.specs.Said.{SaysBy, SaysWins}
 use Rattle.position_commands.specs.Wins.{TellsWins}

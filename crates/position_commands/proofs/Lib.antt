@@ -3,3 +3,5 @@ mod Joined
 mod Separated
 mod Shortest
 mod Won
+pub mod Answered
+mod Found

@@ -5,12 +5,12 @@ use Rattle.misere_theory.specs.Games.{Indistinguishable, IsHeap, IsP, IsPosition
 use Rattle.positions.specs.Outcomes.{HasOutcome}
 use Rattle.positions.specs.declared.outcome.Outcome.{Outcome}
 use Rattle.dominance_text.specs.Said.{DominanceSaid}
-use Rattle.infinite_player.specs.Told.{AreApartBy, IsHeavy}
-use Rattle.play_command.specs.Lines.{beyond_line}
+use Rattle.label_players.specs.WholeTold.{AreApartBy, IsHeavy}
+use Rattle.position_commands.specs.PlayLines.{beyond_line}
 use Rattle.presented_checker.specs.Refused.{Kept}
-use Rattle.presented_player.specs.Plays.{SpeaksOf}
+use Rattle.label_players.specs.Plays.{SpeaksOf}
 use Rattle.presented_tables.specs.Tested.{HasWord}
-use Rattle.presented_player.specs.Told.{AreApartBy as AreToldBy}
+use Rattle.label_players.specs.Told.{AreApartBy as AreToldBy}
 use Rattle.position_commands.specs.Lines.{alike_line, apart_line, heavy_line, untried_line}
 
 -- X and Y are indistinguishable, and the text says so. Or Z tells them apart: the outcomes of X + Z and

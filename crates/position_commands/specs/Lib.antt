@@ -4,3 +4,6 @@ pub mod Lines
 pub mod Said
 pub mod Values
 pub mod Wins
+pub mod PlayLines
+pub mod Many
+pub mod Plays

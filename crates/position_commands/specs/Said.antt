@@ -3,11 +3,11 @@ use Rattle.std.specs.Prelude.{◌≡◌, ◌⊎◌, ℕ, Bool, true, false, List
 use Rattle.misere_theory.specs.Certificates.{Certificate}
 use Rattle.positions.specs.Text.{IsTextOf}
 use Rattle.player.specs.Answers.{SpeaksOf}
-use Rattle.check_command.specs.Checks.{Failed, IsGivenCause}
+use Rattle.given_quotients.specs.Checks.{Failed, IsGivenCause}
 use Rattle.command_results.specs.declared.stop.Stop.{Stop}
 use Rattle.command_results.specs.declared.stop.Stop.TheVariants.{NotAPosition}
-use Rattle.play_command.specs.Lines.{beyond_line}
-use Rattle.play_command.specs.Plays.{IsNoPosition}
+use Rattle.position_commands.specs.PlayLines.{beyond_line}
+use Rattle.position_commands.specs.Plays.{IsNoPosition}
 use Rattle.dominance_text.specs.Said.{DominanceSaid}
 use Rattle.presented_checker.specs.Refused.{Kept}
 use Rattle.given_quotients.specs.Given.{Gives, Refuses}

@@ -8,11 +8,11 @@ use Rattle.answers.specs.Spelled.{AreSpelled}
 use Rattle.dominance.specs.Triples.{triple_of}
 use Rattle.dominance_text.specs.Said.{DominanceSaid}
 use Rattle.dominance_text.specs.Labels.{label_of}
-use Rattle.infinite_player.specs.Told.{IsHeavy}
+use Rattle.label_players.specs.WholeTold.{IsHeavy}
 use Rattle.presented_checker.specs.Refused.{Kept}
-use Rattle.presented_player.specs.Forms.{IsFormOf}
-use Rattle.presented_player.specs.Plays.{SpeaksOf}
-use Rattle.play_command.specs.Lines.{beyond_line}
+use Rattle.label_players.specs.Forms.{IsFormOf}
+use Rattle.label_players.specs.Plays.{SpeaksOf}
+use Rattle.position_commands.specs.PlayLines.{beyond_line}
 use Rattle.position_commands.specs.Lines.{form_line, heavy_line, triple_line, value_line}
 
 -- the text has the element of the position X, the outcome of X, and the position that the keys of the

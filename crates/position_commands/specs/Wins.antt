@@ -9,8 +9,8 @@ use Rattle.positions.specs.declared.moves.Move.{Move}
 use Rattle.player.specs.declared.answering.Answer.{Answer}
 use Rattle.player.specs.declared.answering.Answer.TheVariants.{Ended, Lost, Wins}
 use Rattle.presented_checker.specs.Refused.{Kept}
-use Rattle.presented_player.specs.Plays.{SpeaksOf}
-use Rattle.play_command.specs.Lines.{answer_line, beyond_line, win_line}
+use Rattle.label_players.specs.Plays.{SpeaksOf}
+use Rattle.position_commands.specs.PlayLines.{answer_line, beyond_line, win_line}
 use Rattle.position_commands.specs.Kinds.{IsAnswerIn, code_of, looks_of, most_looks_of}
 use Rattle.position_commands.specs.Lines.{many_line}
 use Rattle.position_commands.specs.declared.wins.TheConstants.{MOST_LOOKS}

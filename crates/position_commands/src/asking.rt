@@ -1,8 +1,8 @@
 //! `play --all`: all winning moves in a position, out of a file.
 ghost use Rattle.std.specs.Prelude.{◌≡◌, false, true, IfOk, IfErr, IsErrOf, is_none, is_some, option_map};
-ghost use Rattle.check_command.specs.Checks.{AreGiven, failed};
+ghost use Rattle.given_quotients.specs.Checks.{AreGiven, failed};
 ghost use Rattle.given_quotients.specs.declared.giving.Quotient.TheVariants.{Finite, Whole};
-ghost use Rattle.play_command.specs.Plays.{IsPlayCause};
+ghost use Rattle.position_commands.specs.Plays.{IsPlayCause};
 ghost use Rattle.player.specs.Answers.{SpeaksOf};
 ghost use Rattle.position_commands.specs.Said.{AsksWins, SaysBy, SaysFoundOf, SaysWins};
 ghost use Rattle.position_commands.specs.Wins.{TellsPresentedWins, TellsWins};
@@ -11,12 +11,11 @@ use crate::quotients::speaks_of;
 use crate::wins::wins_said;
 use allocation::Memory;
 use command_results::{Said, Stop};
-use folders::Folder;
+use streams::{Folder, Source};
 use given_quotients::{Quotient, quotient_of};
-use play_command::{beyond, position_of};
+use crate::{beyond, position_of};
 use positions::Position;
 use std::alloc::Global;
-use streams::Source;
 
 /// What the quotient says of the position.
 fn said_by(alloc: Global, quotient: &Quotient, position: &Position) -> Result<Said, Memory>

@@ -1,15 +1,14 @@
 //! The lines of positions.
 ghost use Rattle.std.specs.Prelude.{◌≡◌, IfOk};
 ghost use Rattle.std.specs.String.{string_bytes};
-ghost use Rattle.infinite_player.specs.Values.{triple_told};
+ghost use Rattle.label_players.specs.Values.{triple_told};
 ghost use Rattle.positions.specs.Text.{position_text};
 ghost use Rattle.position_commands.specs.Lines.{alike_line, apart_line, form_line, form_pieces, heavy_line, many_line, outcome_letter, triple_line, untried_line, value_line};
 
 use allocation::Memory;
-use infinite_player::WholeValue;
+use label_players::{WholeValue, WideWord, form_text as word_text};
 use player::Outcome;
 use positions::Position;
-use presented_player::{WideWord, form_text as word_text};
 use std::alloc::{AllocError, Global};
 
 fn letter(outcome: Outcome) -> &'static str

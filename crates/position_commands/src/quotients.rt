@@ -11,12 +11,11 @@ ghost use Rattle.position_commands.specs.Kinds.{HeapIn, IsAnswerIn, SpeaksIn, co
 
 use answers::Certified;
 use given_quotients::Quotient;
-use infinite_player::{whole_answer, whole_outcome_at};
+use label_players::{presented_answer, presented_fits, presented_outcome_at, whole_answer, whole_outcome_at};
 use octal_code::Code;
 use player::{Answer, Outcome, answer, fits, outcome_by};
 use positions::{Options, Position, options_up_to};
 use presented_checker::PresentedQuotient;
-use presented_player::{presented_answer, presented_fits, presented_outcome_at};
 use whole_checker::WholeGame;
 
 /// That a whole game speaks of the position, as it does of each.

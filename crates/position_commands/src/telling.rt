@@ -3,7 +3,7 @@ ghost use Rattle.std.specs.Prelude.{◌≡◌, ◌↔◌, ◌<◌, ℕ, List, fa
 ghost use Rattle.std.specs.Option.{MatchOption};
 ghost use Rattle.misere_theory.specs.Certificates.{LeastApart, TellsApart, claim_of};
 ghost use Rattle.misere_theory.specs.Quotients.{value};
-ghost use Rattle.check_command.specs.Checks.{AreGiven, failed};
+ghost use Rattle.given_quotients.specs.Checks.{AreGiven, failed};
 ghost use Rattle.player.specs.Answers.{SpeaksOf};
 ghost use Rattle.positions.specs.Outcomes.{HasOutcome};
 ghost use Rattle.position_commands.specs.Apart.{SaysApart, SaysApartOfPresented, SaysApartOfWhole};
@@ -13,16 +13,14 @@ use crate::lines::{alike_text, apart_text, heavy_text, untried_text};
 use allocation::Memory;
 use answers::Certified;
 use command_results::{Said, Stop};
-use folders::Folder;
+use streams::{Folder, Source};
 use given_quotients::{Quotient, quotient_of};
-use infinite_player::{Separation, whole_apart};
-use play_command::{beyond, position_of};
+use label_players::{Separation, presented_apart, presented_fits, whole_apart};
+use crate::{beyond, position_of};
 use player::{Outcome, fits, value};
 use positions::Position;
 use presented_checker::PresentedQuotient;
-use presented_player::{presented_apart, presented_fits};
 use std::alloc::Global;
-use streams::Source;
 use whole_checker::WholeGame;
 
 /// The least element that takes exactly one of the two into the portion, if there is one.

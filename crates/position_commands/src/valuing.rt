@@ -1,7 +1,7 @@
 //! `value`: what a quotient says of a position.
 ghost use Rattle.std.specs.Prelude.{◌≡◌, false, true, IfOk, IfErr, IsErrOf, is_none, is_some, option_map};
-ghost use Rattle.check_command.specs.Checks.{AreGiven, failed};
-ghost use Rattle.play_command.specs.Plays.{IsPlayCause};
+ghost use Rattle.given_quotients.specs.Checks.{AreGiven, failed};
+ghost use Rattle.position_commands.specs.Plays.{IsPlayCause};
 ghost use Rattle.player.specs.Answers.{SpeaksOf};
 ghost use Rattle.position_commands.specs.Said.{AsksValue, SaysBy, SaysFoundOf};
 ghost use Rattle.position_commands.specs.Values.{TellsForm, TellsValue, TellsWholeValue};
@@ -10,16 +10,14 @@ use crate::lines::{form_text, heavy_text, triple_text, value_text};
 use allocation::Memory;
 use answers::Certified;
 use command_results::{Said, Stop};
-use folders::Folder;
+use streams::{Folder, Source};
 use given_quotients::{Quotient, quotient_of};
-use infinite_player::{whole_outcome, whole_value};
-use play_command::{beyond, position_of};
+use label_players::{presented_fits, presented_form, presented_outcome, whole_outcome, whole_value};
+use crate::{beyond, position_of};
 use player::{fits, outcome, value as element_of};
 use positions::Position;
 use presented_checker::PresentedQuotient;
-use presented_player::{presented_fits, presented_form, presented_outcome};
 use std::alloc::Global;
-use streams::Source;
 use whole_checker::WholeGame;
 
 /// The line of the position's element, of which the certificate speaks.

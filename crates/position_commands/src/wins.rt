@@ -13,7 +13,7 @@ use allocation::Memory;
 use command_results::Said;
 use given_quotients::Quotient;
 use heap_options::options_are_exact;
-use play_command::answer_text;
+use crate::answer_text;
 use player::{Answer, Outcome};
 use positions::{Left, Move, Position};
 use std::alloc::{AllocError, Global};

@@ -3,7 +3,7 @@ use crate::forms::Forms;
 use crate::monomials::{beside, is_before, product, shortened_by};
 use crate::part::Rest;
 use normal_forms::{Exponents, Rule};
-use presentation_drafts::{exponent, is_in, lengthened};
+use crate::{exponent, is_in, lengthened};
 use presentations::LETTERS;
 use quotient_search::{Halt, Work};
 use running_pairs::{NONE, byte, put_byte};

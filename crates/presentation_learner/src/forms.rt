@@ -3,7 +3,7 @@ use crate::monomials::{beside, product, rule_in, shortened_by};
 use crate::part::{Part, Rest};
 use crate::table::WordTable;
 use normal_forms::{Exponents, Rule};
-use presentation_drafts::{ONE, exponent, lengthened};
+use crate::{ONE, exponent, lengthened};
 use quotient_search::{Halt, Work};
 use running_pairs::{NONE, at, byte, put, put_byte};
 use std::alloc::Allocator;

@@ -4,7 +4,7 @@ use crate::monomials::shortened_by;
 use crate::standard::Standard;
 use crate::table::WordTable;
 use normal_forms::Exponents;
-use presentation_drafts::{ONE, exponent, last_letter, lengthened};
+use crate::{ONE, exponent, last_letter, lengthened};
 use quotient_search::{Halt, Work};
 use running_pairs::{NONE, at, greatest};
 use std::alloc::Allocator;

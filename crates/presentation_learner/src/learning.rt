@@ -8,7 +8,7 @@ use crate::rounds::{Stage, settled_rules};
 use crate::table::WordTable;
 use normal_forms::{Exponents, Rule};
 use octal_code::Code;
-use presentation_drafts::{FoundLines, ONE, drafted, shortened};
+use crate::{FoundLines, ONE, drafted, shortened};
 use presented_text::LetterCycle;
 use quotient_search::{Halt, Work};
 use running_pairs::{NONE, at};

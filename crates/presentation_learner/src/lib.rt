@@ -37,9 +37,12 @@
 //! | `rounds` | round by round, until nothing contradicts the rules |
 //! | `lettering`, `portion` | letters, relations and portion |
 //! | `learning` | generator by generator, and the text |
+//! | `words`, `cycles`, `drafting` | words in order, least cycles, and the texts of presentations on the way |
 #![tactic(auto)]
 
 mod contexts;
+mod cycles;
+mod drafting;
 mod faults;
 mod forms;
 mod joining;
@@ -52,6 +55,12 @@ mod portion;
 mod rounds;
 mod standard;
 mod table;
+mod words;
 
+pub use cycles::shortened;
+pub use drafting::{FoundLines, drafted};
 pub use learning::Learner;
 pub use part::Scope;
+pub use words::{
+    ONE, exponent, is_in, is_reducible_at, last_letter, lengthened, order, with_exponent,
+};

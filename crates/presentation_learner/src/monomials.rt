@@ -1,6 +1,6 @@
 //! Products of words of generators, and an order in which moves and relations lead downwards.
 use normal_forms::{Exponents, Rule};
-use presentation_drafts::{ONE, exponent, is_in};
+use crate::{ONE, exponent, is_in};
 use presentations::LETTERS;
 use std::cmp::Ordering;
 

@@ -8,7 +8,7 @@ use crate::part::Part;
 use crate::standard::{Standard, standard_words};
 use crate::table::WordTable;
 use normal_forms::{Exponents, Rule};
-use presentation_drafts::{exponent, is_in, with_exponent};
+use crate::{exponent, is_in, with_exponent};
 use presentations::LETTERS;
 use quotient_search::{Halt, Work};
 use running_pairs::{at, put};

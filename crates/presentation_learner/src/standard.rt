@@ -2,7 +2,7 @@
 use crate::forms::Forms;
 use crate::table::WordTable;
 use normal_forms::{Exponents, Rule};
-use presentation_drafts::{ONE, exponent, is_reducible_at, last_letter, lengthened};
+use crate::{ONE, exponent, is_reducible_at, last_letter, lengthened};
 use quotient_search::{Halt, Work};
 use running_pairs::{NONE, at, byte, greatest, put, put_byte};
 use std::alloc::Allocator;

@@ -1,6 +1,6 @@
 //! Words with numbers.
 use normal_forms::{Exponents, is_word};
-use presentation_drafts::{ONE, exponent};
+use crate::{ONE, exponent};
 use presentations::LETTERS;
 use quotient_search::Halt;
 use running_pairs::{NONE, put, rest};

@@ -3,7 +3,7 @@ ghost use Rattle.std.specs.Prelude.{◌≡◌};
 ghost use Rattle.presentation_search.specs.Found.{IsFound};
 
 use allocation::{Memory, SmallAllocator};
-use infinite_answers::InfiniteRefusal;
+use answers::InfiniteRefusal;
 use presented_checker::{PresentedQuotient, check_presented};
 use std::alloc::Global;
 use std::marker::Model;

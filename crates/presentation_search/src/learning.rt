@@ -3,7 +3,7 @@ use crate::contexts::is_within;
 use crate::telling::{Contexts, Met, Tree};
 use crate::values::Value;
 use normal_forms::{Exponents, Rule};
-use presentation_drafts::{ONE, is_reducible_at, last_letter, lengthened};
+use presentation_learner::{ONE, is_reducible_at, last_letter, lengthened};
 use quotient_search::{Halt, Work};
 use std::alloc::Allocator;
 

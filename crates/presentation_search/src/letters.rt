@@ -6,7 +6,7 @@ use crate::sources::ClaimValues;
 use crate::telling::Contexts;
 use crate::values::{Value, ValueTable};
 use normal_forms::Exponents;
-use presentation_drafts::ONE;
+use presentation_learner::ONE;
 use presentations::LETTERS;
 use quotient_search::{Halt, Work};
 use std::alloc::Allocator;

@@ -3,7 +3,7 @@ use crate::counts::small;
 use crate::reach::{cycle_of, multiple};
 use crate::values::{Value, ValueTable};
 use normal_forms::{Exponents, Rule};
-use presentation_drafts::{ONE, exponent, is_reducible_at, last_letter, lengthened};
+use presentation_learner::{ONE, exponent, is_reducible_at, last_letter, lengthened};
 use presented_text::LetterCycle;
 use quotient_search::{Halt, Work};
 use std::alloc::Allocator;

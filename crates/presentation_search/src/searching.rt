@@ -7,7 +7,7 @@ use crate::reach::reaches_of;
 use crate::sources::ClaimValues;
 use crate::telling::Contexts;
 use crate::values::Value;
-use presentation_drafts::{FoundLines, drafted, shortened};
+use presentation_learner::{FoundLines, drafted, shortened};
 use quotient_search::{Halt, Work};
 use std::alloc::Allocator;
 

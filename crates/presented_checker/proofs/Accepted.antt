@@ -11,19 +11,19 @@ use Rattle.normal_forms.proofs.Products.{element-labels}
 use Rattle.normal_forms.proofs.Steps.{forms as forms_of}
 use Rattle.normal_forms.proofs.Confluence.{same-forms}
 use Rattle.normal_forms.proofs.Words.{length-sum}
-use Rattle.letter_heaps.proofs.Reached.{reached}
+use Rattle.normal_forms.proofs.Reached.{reached}
 use Rattle.kept_positions.proofs.Told.{represented}
-use Rattle.kept_checker.specs.Numbers.{KeptPositions, entry, AreFoundTested}
-use Rattle.kept_checker.specs.Numbering.{Numbering, AreTablesOf}
-use Rattle.kept_checker.proofs.Lifting.{none_bad}
-use Rattle.told_labels.specs.Told.{AreTold, mark_of}
-use Rattle.told_labels.specs.Marks.{AreMarksOf, AreAlone}
-use Rattle.told_labels.proofs.Told.{told_labels}
+use Rattle.kept_positions.specs.Numbers.{KeptPositions, entry, AreFoundTested}
+use Rattle.kept_positions.specs.Numbering.{Numbering, AreTablesOf}
+use Rattle.kept_positions.proofs.Lifting.{none_bad}
+use Rattle.kept_positions.specs.Told.{AreTold, mark_of}
+use Rattle.kept_positions.specs.Marks.{AreMarksOf, AreAlone}
+use Rattle.kept_positions.proofs.Marked.{told_labels}
 use Rattle.presented_text.specs.Said.{PresentedSaid, IsInRanges}
 use Rattle.presented_claims.specs.Claims.{heap_word, in_portion, IsElement, claim_of}
 use Rattle.presented_claims.specs.Presents.{Presents}
-use Rattle.finite_presentations.specs.Numbered.{AreNumbered}
-use Rattle.one_presentation.proofs.Words.{heap-is}
+use Rattle.presented_claims.specs.Numbered.{AreNumbered}
+use Rattle.presented_forms.proofs.Words.{heap-is}
 use Rattle.presented_forms.specs.Form.{IsInForm}
 use Rattle.presented_tables.specs.Elements.{element}
 use Rattle.presented_tables.specs.Tested.{PresentedTables, HasWord, AreTestedTables}

@@ -6,7 +6,7 @@ use Rattle.presentations.specs.declared.TheConstants.{LETTERS}
 use Rattle.normal_forms.specs.Reductions.{AreConvergent}
 use Rattle.presented_text.specs.Said.{PresentedSaid, IsInRanges}
 use Rattle.presented_claims.specs.Claims.{claim_of}
-use Rattle.one_presentation.proofs.Words.{heap-long}
+use Rattle.presented_forms.proofs.Words.{heap-long}
 use Rattle.presented_tables.specs.Tested.{HasWord}
 use Rattle.presented_tables.specs.Saying.{AreSaidBy}
 use Rattle.presented_checker.specs.Refused.{IsBrokenAt}

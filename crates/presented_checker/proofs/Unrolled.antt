@@ -7,11 +7,11 @@ use Rattle.presented_text.specs.Said.{PresentedSaid, IsInRanges}
 use Rattle.presented_claims.specs.Claims.{claim_of}
 use Rattle.presented_claims.specs.Presents.{Presents}
 use Rattle.presented_forms.specs.Form.{IsInForm}
-use Rattle.infinite_answers.specs.Answers.{Why, Text, Law, Outcome, Limit, Memory, Part, Undecided, Finite}
-use Rattle.whole_presentations.specs.Unrolled.{unrolled, enough_heaps}
-use Rattle.whole_presentations.proofs.Lists.{all-before}
-use Rattle.whole_presentations.proofs.Whole.{presents, infinite, leaves, breaks}
-use Rattle.whole_presentations.proofs.Forms.{enough, in-ranges, in-form}
+use Rattle.answers.specs.InfiniteAnswers.{Why, Text, Law, Outcome, Limit, Memory, Part, Undecided, Finite}
+use Rattle.presented_checker.specs.Unrolled.{unrolled, enough_heaps}
+use Rattle.presented_checker.proofs.Lists.{all-before}
+use Rattle.presented_checker.proofs.Whole.{presents, infinite, leaves, breaks}
+use Rattle.presented_checker.proofs.Forms.{enough, in-ranges, in-form}
 use Rattle.presented_checker.specs.Refused.{IsOrder, IsBrokenAt, Fits}
 
 module _ (c : PresentedSaid) (B : ℕ) where

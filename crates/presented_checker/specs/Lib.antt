@@ -1,1 +1,3 @@
 pub mod Refused
+pub mod Endless
+pub mod Unrolled

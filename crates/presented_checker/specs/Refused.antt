@@ -10,13 +10,13 @@ use Rattle.presented_text.specs.Said.{PresentedSaid, IsInRanges}
 use Rattle.presented_text.specs.Spelling.{SpellsPresented}
 use Rattle.presented_claims.specs.Claims.{claim_of}
 use Rattle.presented_claims.specs.Presents.{Presents}
-use Rattle.finite_presentations.specs.Numbered.{Numbers, AreNumbered}
+use Rattle.presented_claims.specs.Numbered.{Numbers, AreNumbered}
 use Rattle.presented_forms.specs.Form.{IsInForm}
 use Rattle.presented_forms.specs.Only.{IsLeast}
-use Rattle.class_checker.specs.Endless.{IsEndless}
+use Rattle.presented_checker.specs.Endless.{IsEndless}
 use Rattle.presented_tables.specs.Tested.{HasWord}
 use Rattle.presented_tables.specs.Faults.{LeavesOut}
-use Rattle.infinite_answers.specs.Answers.{Why, Text, Law, Outcome, Limit, Memory, Part, Undecided, Finite}
+use Rattle.answers.specs.InfiniteAnswers.{Why, Text, Law, Outcome, Limit, Memory, Part, Undecided, Finite}
 
 -- There are so many elements: they can be numbered from 0 on.
 abbrev pub HasOrder : PresentedSaid → ℕ → Type 0

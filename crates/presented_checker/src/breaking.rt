@@ -4,12 +4,12 @@ ghost use Rattle.std.specs.Prelude.{IfOk, IfSome, IsTrue};
 ghost use Rattle.misere_theory.specs.Games.{IsPosition};
 ghost use Rattle.presented_text.specs.Said.{IsInRanges};
 ghost use Rattle.presented_tables.specs.Tested.{HasWord};
-ghost use Rattle.infinite_answers.specs.Refusals.{refused};
+ghost use Rattle.answers.specs.InfiniteRefusals.{refused};
 ghost use Rattle.presented_checker.specs.Refused.{Fits, IsBrokenAt};
 
 use allocation::{Memory, SmallAllocator};
 use class_tables::ListedWords;
-use infinite_answers::InfiniteRefusal;
+use answers::InfiniteRefusal;
 use normal_forms::Exponents;
 use octal_code::Code;
 use outcome_rule::rule_fails_at;

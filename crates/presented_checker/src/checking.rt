@@ -1,8 +1,8 @@
 //! A check of a presentation from its beginning to its end.
 ghost use Rattle.std.specs.Prelude.{◌≡◌, ◌<◌, IfOk, IfErr, IsTrue, length};
 ghost use Rattle.misere_theory.specs.Parts.{IsInfinite};
-ghost use Rattle.kept_checker.specs.Numbers.{KeptPositions, AreFoundTested};
-ghost use Rattle.told_labels.specs.Told.{AreTold};
+ghost use Rattle.kept_positions.specs.Numbers.{KeptPositions, AreFoundTested};
+ghost use Rattle.kept_positions.specs.Told.{AreTold};
 ghost use Rattle.presented_text.specs.Said.{PresentedSaid, IsInRanges};
 ghost use Rattle.presented_text.specs.Spelling.{SpellsPresented};
 ghost use Rattle.presented_claims.specs.Presents.{Presents};
@@ -10,23 +10,21 @@ ghost use Rattle.presented_forms.specs.Form.{IsInForm};
 ghost use Rattle.presented_forms.specs.Only.{IsLeast};
 ghost use Rattle.presented_tables.specs.Tested.{AreTestedTables, HasWord};
 ghost use Rattle.presented_tables.specs.Faults.{IsTrueOf};
-ghost use Rattle.class_checker.specs.Endless.{IsEndless};
-ghost use Rattle.infinite_answers.specs.Refusals.{refused};
+ghost use Rattle.presented_checker.specs.Endless.{IsEndless};
+ghost use Rattle.answers.specs.InfiniteRefusals.{refused};
 ghost use Rattle.presented_checker.specs.Refused.{Fits, HasOrder, IsOrder, IsRight, IsTrueOfBytes};
 
 use crate::breaking::broken;
 use crate::quotient::PresentedQuotient;
 use allocation::SmallAllocator;
-use class_checker::{is_endless, present_by_classes};
-use infinite_answers::InfiniteRefusal;
-use kept_checker::{NotFound, tested_positions};
+use crate::{is_endless, present_by_classes, roll, unroll};
+use answers::InfiniteRefusal;
+use kept_positions::{NotFound, NotTold, tested_positions, told_apart};
 use normal_forms::{Basis, BasisFault};
-use presented_certificate::{PresentedText, TextFault, read};
+use presented_text::{PresentedText, TextFault, read};
 use presented_forms::{is_in_form, is_least};
 use presented_tables::{Presented, PresentedTables, TablesFault, tables_of};
 use std::alloc::Allocator;
-use told_labels::{NotTold, told_apart};
-use whole_presentations::{roll, unroll};
 
 /// The most relations that are taken.
 const MOST_RELATIONS: usize = 4096;

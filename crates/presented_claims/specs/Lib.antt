@@ -1,2 +1,5 @@
 pub mod Claims
 pub mod Presents
+pub mod Folds
+pub mod Led
+pub mod Numbered

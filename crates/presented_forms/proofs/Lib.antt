@@ -6,3 +6,15 @@ pub mod InLetters
 pub mod Reach
 pub mod LeastCycles
 pub mod Listed
+pub mod Each
+pub mod Lists
+pub mod Orders
+pub mod Bases
+pub mod Closed
+pub mod Least
+pub mod Cycles
+pub mod Portion
+pub mod Words
+pub mod One
+pub mod Heaps
+pub mod Final

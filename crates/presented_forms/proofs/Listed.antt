@@ -3,7 +3,7 @@ use Rattle.std.proofs.Common.{◌≡◌, ℕ, zero, suc, ◌<◌, ◌≤◌, Lis
 use Rattle.std.specs.Prelude.{slice_index_or, All}
 use Rattle.std.specs.List.{AllByRecursion}
 use Rattle.presentations.specs.declared.TheConstants.{LETTERS}
-use Rattle.word_texts.specs.Spelled.{IsSpellable}
+use Rattle.presented_text.specs.Spelled.{IsSpellable}
 use Rattle.presented_text.specs.Said.{PresentedSaid, IsInRanges}
 use Rattle.presented_forms.specs.Form.{IsInForm}
 use Rattle.presented_forms.specs.Only.{AreLeastCycles}

@@ -8,8 +8,7 @@ use crate::letters::are_named;
 use crate::order::are_rising;
 use crate::portion::{are_below, stand_for_standard};
 use normal_forms::{Exponents, Rule};
-use presented_certificate::PresentedText;
-use presented_text::LetterCycle;
+use presented_text::{LetterCycle, PresentedText};
 use std::alloc::Allocator;
 
 /// Whether the words of the portion have the form that is asked for.

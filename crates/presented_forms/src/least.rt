@@ -9,7 +9,7 @@ ghost use Rattle.presented_forms.specs.Only.{AreLeastCycles, IsLeast};
 use crate::cycles::are_least_cycles;
 use crate::list::is_least_list;
 use crate::within::{are_rules_within, are_words_within};
-use presented_certificate::PresentedText;
+use presented_text::PresentedText;
 use std::alloc::Allocator;
 
 /// Whether no other letters than those that are named occur in relations.

@@ -7,7 +7,7 @@ ghost use Rattle.presented_forms.specs.Form.{AreNamed, IsNamedBy};
 
 use normal_forms::Exponents;
 use presentations::LETTERS;
-use presented_certificate::PresentedText;
+use presented_text::PresentedText;
 use std::alloc::Allocator;
 
 /// The exponent of letter `k` in the word of letter `i`.

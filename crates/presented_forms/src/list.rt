@@ -5,7 +5,7 @@ ghost use Rattle.presented_claims.specs.Claims.{has_word, listed_heap, listed_wo
 ghost use Rattle.presented_forms.specs.Only.{IsLeastList, WordsRepeat};
 
 use normal_forms::Exponents;
-use presented_certificate::PresentedText;
+use presented_text::PresentedText;
 use std::alloc::Allocator;
 
 /// The heap of the list whose word a heap has, or 0.

@@ -18,8 +18,8 @@ use Rattle.normal_forms.proofs.Confluence.{one-form}
 use Rattle.normal_forms.proofs.Products.{form-product, label-form, form-element, element-labels}
 use Rattle.kept_positions.specs.Kept.{IsBadBeside, AreNeverBad}
 use Rattle.kept_positions.specs.Presented.{AreTestedLabels}
-use Rattle.kept_checker.specs.Numbers.{LabelTables}
-use Rattle.kept_checker.specs.Numbering.{Numbering, AreTablesOf}
+use Rattle.kept_positions.specs.Numbers.{LabelTables}
+use Rattle.kept_positions.specs.Numbering.{Numbering, AreTablesOf}
 use Rattle.presented_text.specs.Said.{PresentedSaid}
 use Rattle.presented_claims.specs.Claims.{heap_word, in_portion, IsElement, claim_of}
 use Rattle.presented_tables.specs.Elements.{place, ListedElements, element, Takes, AreElements}

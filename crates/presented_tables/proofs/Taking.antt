@@ -7,7 +7,7 @@ use Rattle.presentations.specs.Vectors.{plus, zeros, only}
 use Rattle.presentations.specs.Congruences.{Related}
 use Rattle.presentations.specs.Congruences.Related.{Same, Chained, Beside}
 use Rattle.presentations.proofs.VectorLaws.{cons-same, plus-zeros, zeros-plus, length-zeros, length-only, plus-comm, plus-assoc, only-here, bump-plus, by_letters, partial, partial-none, partial-next, partial-all, zeros-at}
-use Rattle.kept_checker.specs.Numbers.{entry}
+use Rattle.kept_positions.specs.Numbers.{entry}
 use Rattle.normal_forms.specs.Forms.{IsNormalForm, IsStandard, IsIn, word_of}
 use Rattle.normal_forms.proofs.Words.{plus-at, length-sum, same-word}
 use Rattle.normal_forms.proofs.Confluence.{one-form}

@@ -4,7 +4,7 @@ use Rattle.std.specs.Cmp.Lexicographic.{pointwise}
 use Rattle.presentations.specs.declared.TheConstants.{LETTERS}
 use Rattle.presentations.specs.Vectors.{plus, zeros, only}
 use Rattle.presentations.specs.Congruences.{Related}
-use Rattle.kept_checker.specs.Numbers.{entry}
+use Rattle.kept_positions.specs.Numbers.{entry}
 use Rattle.normal_forms.specs.Reductions.{AreConvergent}
 use Rattle.presented_text.specs.Said.{PresentedSaid}
 use Rattle.presented_claims.specs.Claims.{in_portion, IsElement}

@@ -1,6 +1,6 @@
 -- What stands in the tables of labels. This project's own.
 use Rattle.std.specs.Prelude.{◌≡◌, ℕ, ◌*◌, ◌+◌, ◌/◌, ◌%◌, ◌<◌, Bool, true, false, List, length, slice_index, slice_index_or}
-use Rattle.kept_checker.specs.Numbers.{LabelTables}
+use Rattle.kept_positions.specs.Numbers.{LabelTables}
 use Rattle.presented_text.specs.Said.{PresentedSaid}
 use Rattle.presented_claims.specs.Claims.{heap_word}
 use Rattle.presented_tables.specs.Elements.{ListedElements, element, Takes}

@@ -8,8 +8,8 @@ use Rattle.presentations.specs.Congruences.{Related}
 use Rattle.normal_forms.specs.Forms.{NormalForms, IsNormalForm, IsIn, AreIn, word_of}
 use Rattle.kept_positions.specs.Kept.{AreNeverBad}
 use Rattle.kept_positions.specs.Presented.{AreTestedLabels}
-use Rattle.kept_checker.specs.Numbers.{LabelTables, entry}
-use Rattle.kept_checker.specs.Numbering.{Numbering, AreTablesOf}
+use Rattle.kept_positions.specs.Numbers.{LabelTables, entry}
+use Rattle.kept_positions.specs.Numbering.{Numbering, AreTablesOf}
 use Rattle.presented_text.specs.Said.{PresentedSaid}
 use Rattle.presented_claims.specs.Claims.{has_word, heap_word, in_portion, IsElement, claim_of}
 use Rattle.presented_tables.specs.Elements.{ListedElements, element, Takes, AreElements}

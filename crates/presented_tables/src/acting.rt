@@ -2,7 +2,7 @@
 ghost use Rattle.std.specs.Prelude.{◌≡◌, ◌<◌, IfSome, length};
 ghost use Rattle.presentations.specs.declared.TheConstants.{LETTERS};
 ghost use Rattle.presentations.specs.Vectors.{only};
-ghost use Rattle.kept_checker.specs.Numbers.{entry};
+ghost use Rattle.kept_positions.specs.Numbers.{entry};
 ghost use Rattle.presented_claims.specs.Claims.{heap_word};
 ghost use Rattle.presented_tables.specs.Elements.{Takes, AreElements};
 

@@ -22,7 +22,7 @@ use crate::rows::{images, marks, nexts};
 use crate::standing::are_elements;
 use crate::weights::weights;
 use crate::within::test_within;
-use kept_checker::LabelTables;
+use kept_positions::LabelTables;
 use std::alloc::{Allocator, Global};
 use std::marker::Model;
 

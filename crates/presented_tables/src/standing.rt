@@ -2,7 +2,7 @@
 ghost use Rattle.std.specs.Prelude.{◌≡◌, ◌<◌, ℕ, IsTrue, IfSome, IfOk, false, length, slice_index_or};
 ghost use Rattle.presentations.specs.declared.TheConstants.{LETTERS};
 ghost use Rattle.presentations.specs.Vectors.{plus, zeros, only};
-ghost use Rattle.kept_checker.specs.Numbers.{entry};
+ghost use Rattle.kept_positions.specs.Numbers.{entry};
 ghost use Rattle.presented_claims.specs.Claims.{IsElement, in_portion};
 ghost use Rattle.presented_tables.specs.Elements.{element, Takes, AreElements};
 

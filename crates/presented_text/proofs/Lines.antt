@@ -8,10 +8,10 @@ use Rattle.certificate_text.specs.Reading.{◌>>=◌, fixed_at, is_digit}
 use Rattle.certificate_text.proofs.Numbers.{bind_some, test_none, fixed_takes, fixed_then, fixed_again, number_takes, number_again, behind}
 use Rattle.certificate_text.proofs.Fields.{otherwise_some}
 use Rattle.relations.specs.Printed.{or_one}
-use Rattle.word_texts.specs.Spelled.{powers_text, spelled, IsSpellable}
-use Rattle.word_texts.specs.Read.{spelled_at}
-use Rattle.word_texts.proofs.Powers.{no_fixed}
-use Rattle.word_texts.proofs.Words.{spelled_takes, spelled_again}
+use Rattle.presented_text.specs.Spelled.{powers_text, spelled, IsSpellable}
+use Rattle.presented_text.specs.Read.{spelled_at}
+use Rattle.presented_text.proofs.Powers.{no_fixed}
+use Rattle.presented_text.proofs.Words.{spelled_takes, spelled_again}
 use Rattle.presented_text.specs.declared.TheConstants.{LARGEST_CYCLE}
 use Rattle.presented_text.specs.Said.{IsHeapWord, IsSpellablePair, IsCycle}
 use Rattle.presented_text.specs.Spelling.{heap_word}

@@ -14,7 +14,7 @@ use Rattle.certificate_text.proofs.Codes.{code_line_takes, code_line_again}
 use Rattle.certificate_text.proofs.Fields.{otherwise_some}
 use Rattle.certificate_text.proofs.Lists.{line_text}
 use Rattle.certificate_text.proofs.Grouped.{text_then, text_then_is}
-use Rattle.word_texts.specs.Spelled.{spelled}
+use Rattle.presented_text.specs.Spelled.{spelled}
 use Rattle.presented_text.specs.declared.TheConstants.{MOST_HEAPS, MOST_ITEMS, MOST_GENERATORS}
 use Rattle.presented_text.specs.Said.{PresentedSaid, IsInRanges}
 use Rattle.presented_text.specs.Spelling.{heap_word, heaps_words, relation_line, presented_lines, SpellsPresented}

@@ -1,3 +1,5 @@
 pub mod Said
 pub mod Spelling
 pub mod Reading
+pub mod Spelled
+pub mod Read

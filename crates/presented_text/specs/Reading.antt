@@ -2,7 +2,7 @@
 -- does; that this is the spelling is the law `reading_is_spelling`. This project's own.
 use Rattle.std.specs.Prelude.{ℕ, zero, suc, ◌+◌, ◌==◌, List, [], ◌∷◌, length, Option, Some, None, nat_lt, if◌then◌else◌, codes}
 use Rattle.certificate_text.specs.Reading.{◌>>=◌, with_front, otherwise, fixed_at, number_at, code_line_at}
-use Rattle.word_texts.specs.Read.{spelled_at}
+use Rattle.presented_text.specs.Read.{spelled_at}
 use Rattle.presented_text.specs.declared.TheConstants.{MOST_HEAPS, MOST_ITEMS, LARGEST_CYCLE, MOST_GENERATORS}
 use Rattle.presented_text.specs.Said.{PresentedSaid}
 

@@ -3,7 +3,7 @@
 use Rattle.std.specs.Prelude.{◌≡◌, ℕ, ◌≤◌, List, length, Option, Some, None}
 use Rattle.std.specs.List.{AllByRecursion}
 use Rattle.misere_theory.specs.Games.{IsCode}
-use Rattle.word_texts.specs.Spelled.{IsSpellable}
+use Rattle.presented_text.specs.Spelled.{IsSpellable}
 use Rattle.presented_text.specs.declared.TheConstants.{MOST_HEAPS, MOST_ITEMS, LARGEST_CYCLE, MOST_GENERATORS}
 
 -- The digits of the code; how many heaps have words of their own, and after how many these repeat, 0 if no

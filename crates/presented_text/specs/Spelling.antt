@@ -4,7 +4,7 @@ use Rattle.std.specs.Prelude.{◌≡◌, ℕ, zero, suc, List, [], ◌∷◌, �
 use Rattle.std.specs.Fmt.{decimal}
 use Rattle.octal_code.specs.Text.{code_text}
 use Rattle.certificate_text.specs.Spelling.{Line, text, key_word}
-use Rattle.word_texts.specs.Spelled.{spelled}
+use Rattle.presented_text.specs.Spelled.{spelled}
 use Rattle.presented_text.specs.Said.{PresentedSaid, IsInRanges}
 
 -- the word of a heap, or a sign that it is left out

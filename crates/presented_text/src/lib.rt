@@ -1,14 +1,26 @@
-//! The text of a presentation of a misère quotient: which bytes spell which one, as definitions, and their
-//! laws.
+//! The text of a presentation of a misère quotient: which bytes spell which one, as definitions, their
+//! laws, and the reader.
 //!
 //! `SpellsPresented` (specs/Spelling.antt) is the one text of what is said (`PresentedSaid`,
 //! specs/Said.antt); `said_at` (specs/Reading.antt) reads from left to right. `LetterCycle` is a part of it in memory.
-//! Nothing here runs.
+//! A word in commuting letters is its letters in order, each with its exponent if that is above 1, and 1 for the empty
+//! word (`words`).
 #![tactic(auto)]
 
+mod items;
+mod laws;
 mod letter_cycle;
+mod lists;
+mod reading;
+mod text;
+mod words;
 
+pub use certificate_lines::TextFault;
+pub use laws::words_are_read;
 pub use letter_cycle::LetterCycle;
+pub use reading::{read, read_from};
+pub use text::PresentedText;
+pub use words::word;
 
 /// How many heaps have words of their own at most.
 pub const MOST_HEAPS: u16 = 16384;
@@ -42,3 +54,6 @@ pub fn reading_is_spelling()
     ensures again { (b : List ℕ) (c : PresentedSaid) → SpellsPresented b c
         → said_at b ≡ Some (c, []) }
 {}
+
+/// The largest exponent of a word that is read.
+pub const LARGEST_POWER: u16 = 1000;

@@ -2,11 +2,10 @@
 use crate::certificates::{OF_0_75, RIGHT_UP_TO_8};
 use crate::comparing::bound;
 use allocation::SmallAllocator;
-use desk::{Client, Desk, Event, Reply};
-use desk_script::{Step, read_script};
+use desk::{Client, Desk, Event, Reply, Step, read_script};
 use player::{Answer, Outcome};
 use positions::Left;
-use ration::Ration;
+use devices::Ration;
 use std::alloc::Global;
 
 /// The second client's certificate is right up to heap 8 alone.

@@ -4,7 +4,7 @@ use crate::comparing::bound;
 use crate::desk_tests::{Claim, End, Said, in_turn, open, work};
 use allocation::SmallAllocator;
 use desk::Desk;
-use ration::Ration;
+use devices::Ration;
 use std::alloc::Global;
 
 const SMALL: Claim = (OF_0_33, 1000);

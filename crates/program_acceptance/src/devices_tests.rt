@@ -1,7 +1,6 @@
 //! Streams read and written whole, byte by byte, and with a failure at each call in turn.
 use crate::comparing::compare;
-use devices::{FailingSink, FailingSource, SlowSink, SlowSource};
-use ration::Ration;
+use devices::{FailingSink, FailingSource, Ration, SlowSink, SlowSource};
 use std::alloc::Global;
 use streams::{MemorySink, MemorySource, Source, StreamFault, read_whole, write_whole};
 

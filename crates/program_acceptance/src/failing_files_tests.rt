@@ -1,7 +1,7 @@
 //! Files of the machine, of which one kind of call fails.
 use crate::comparing::compare;
 use crate::folders_tests::{is_absent, is_read_as, temporary};
-use folders::{FileFault, Folder, HostFolder};
+use streams::{FileFault, Folder, HostFolder};
 use std::alloc::{Allocator, Global};
 use std::fs::{File, Metadata, OpenFile, OpenOptions};
 use std::io::{ErrorKind, Read, Seek, SeekFrom, Write};

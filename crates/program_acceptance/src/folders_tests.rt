@@ -1,6 +1,6 @@
 //! Files in memory, of which one call fails, also as a disk, and those of the machine.
 use crate::comparing::compare;
-use folders::{FileFault, Folder, HostFolder, MemoryFolder, read_all, replace};
+use streams::{FileFault, Folder, HostFolder, MemoryFolder, read_all, replace};
 use std::alloc::Global;
 use std::fs;
 use std::test::Fail;

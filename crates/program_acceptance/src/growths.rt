@@ -4,7 +4,7 @@ use crate::comparing::bound;
 use crate::cyclic::cyclic;
 use crate::{checks, scripts, verdicts_tests};
 use allocation::SmallAllocator;
-use ration::Ration;
+use devices::Ration;
 use std::alloc::Global;
 
 /// What may take memory.

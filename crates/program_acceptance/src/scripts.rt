@@ -1,6 +1,6 @@
 //! A script that is read, or memory that is wanting.
 use allocation::SmallAllocator;
-use desk_script::{ScriptFault, read_script};
+use desk::{ScriptFault, read_script};
 
 /// Whether a script is read as six steps, or 9 for want of memory.
 pub fn has_six_steps<A: SmallAllocator + Copy>(alloc: A) -> Result<bool, u8> {

@@ -3,3 +3,4 @@ pub mod Finding
 pub mod Histories
 pub mod Turns
 pub mod Rounds
+pub mod ProposedHistories

@@ -54,6 +54,8 @@
 //!
 //! An index outside a table would be a fault of the search. It gives a wrong guess then, which the check
 //! refuses, and no panic: that is why `cells` has no error.
+//!
+//! The least periods of lists of elements are found by proved code (`periods`).
 #![tactic(auto)]
 
 mod aim;
@@ -64,6 +66,7 @@ mod congruence;
 mod contexts;
 mod dead;
 mod dead_contexts;
+mod evidence;
 mod extend;
 mod failing;
 mod inside;
@@ -71,6 +74,7 @@ mod levels;
 mod lightest;
 mod lists;
 mod partition;
+mod periods;
 mod quotient;
 mod repair;
 mod rests;
@@ -83,7 +87,9 @@ mod work;
 mod wrong;
 
 pub use aim::{DEEPEST, Extent, Found, LONGEST_PART, Reason};
+pub use evidence::{is_shown, soonest_period};
 pub use partition::Partition;
+pub use periods::{least_period, repeats_from};
 pub use quotient::HeapQuotient;
 pub use search::search_quotient;
 pub use work::{Halt, Work};

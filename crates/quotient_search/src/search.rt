@@ -9,7 +9,7 @@ use crate::state::State;
 use crate::work::{Halt, Means, Work};
 use allocation::Memory;
 use octal_code::Code;
-use periods::{is_shown, repeats_from};
+use crate::{is_shown, repeats_from};
 use std::alloc::Allocator;
 
 /// Adds the heap n, and makes the quotient right.

@@ -3,8 +3,7 @@ use crate::certificates::{OF_0_1, OF_0_3, OF_0_33, OF_0_75, is_spelled};
 use crate::rows::{Row, count_held};
 use allocation::Memory;
 use octal_code::Code;
-use proposers::{Refiner, Sampler};
-use quotient_finder::{GaveUp, Limits, Proposer, find};
+use quotient_finder::{GaveUp, Limits, Proposer, Refiner, Sampler, find};
 use std::alloc::Global;
 
 /// The quotient of 0.03, of order 2.

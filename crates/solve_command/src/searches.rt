@@ -6,8 +6,7 @@ ghost use Rattle.solve_command.specs.Solved.{HasAsked};
 
 use answers::Certified;
 use octal_code::Code;
-use proposers::{AnyProposer, Reason, Refiner, Sampler};
-use quotient_finder::{GaveUp, Limits, ask_rounds};
+use quotient_finder::{AnyProposer, GaveUp, Limits, Reason, Refiner, Sampler, ask_rounds};
 use requests::SolveBounds;
 use std::alloc::Global;
 

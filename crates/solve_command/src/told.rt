@@ -3,7 +3,7 @@ ghost use Rattle.std.specs.Prelude.{◌≡◌, IfOk, false, string_bytes, true};
 ghost use Rattle.solve_command.specs.Searches.{IsGivingUpText, IsReasonLine, reason_line};
 
 use allocation::Memory;
-use proposers::Reason;
+use quotient_finder::Reason;
 use std::alloc::Global;
 
 /// The line of a reason.

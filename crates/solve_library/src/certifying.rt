@@ -1,11 +1,11 @@
 //! The call that certifies tables.
 ghost use Rattle.std.specs.Prelude.{◌≡◌, ◌≢◌, IfOk, IfErr};
-ghost use Rattle.certify_command.specs.Certifies.{TellsBytes};
+ghost use Rattle.solve_command.specs.Certifies.{TellsBytes};
 ghost use Rattle.solve_library.specs.Handed.{HandsOver};
 
 use crate::causes::Untold;
 use crate::handing::{Told, hand_over};
-use certify_command::{ToldTable, certify_bytes};
+use solve_command::{ToldTable, certify_bytes};
 use std::alloc::Global;
 
 /// What is told of the table that the bytes spell.

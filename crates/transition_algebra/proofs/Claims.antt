@@ -15,9 +15,9 @@ use Rattle.heap_options.specs.declared.left.Left.{Left}
 use Rattle.heap_options.specs.declared.left.Left.TheVariants.{Nothing, One, Two, Three}
 use Rattle.heap_options.proofs.OptionLaws.{in_options, of_options, only}
 use Rattle.monoid_table.specs.Grids.{Grid, times_in}
-use Rattle.pretending.specs.Tables.{Agrees, IsInto}
+use Rattle.monoid_table.specs.PretendingTables.{Agrees, IsInto}
 use Rattle.transition_algebra.specs.Heaps.{largest_part, left_value}
-use Rattle.pretending.specs.Pretending.{Pretending, phi_at, IsPretending, kind_of, HasElement}
+use Rattle.monoid_table.specs.Pretending.{Pretending, phi_at, IsPretending, kind_of, HasElement}
 use Rattle.transition_algebra.specs.Work.{tries}
 use Rattle.transition_algebra.proofs.Counted.{full_kind, kind_short, smaller}
 use Rattle.transition_algebra.proofs.Repeats.{phi_repeats, phi_in}

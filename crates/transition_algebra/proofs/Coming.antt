@@ -8,7 +8,7 @@ use Rattle.monoid_table.specs.Grids.{Grid}
 use Rattle.heap_options.specs.declared.left.Left.{Left}
 use Rattle.std.specs.List.{flat_map, range_with_len}
 use Rattle.transition_algebra.specs.Heaps.{left_value}
-use Rattle.pretending.specs.Pretending.{Pretending}
+use Rattle.monoid_table.specs.Pretending.{Pretending}
 use Rattle.transition_algebra.specs.Trials.{with_left}
 
 -- some parts, and those behind

@@ -20,7 +20,7 @@ use Rattle.octal_code.specs.declared.leaving.Leaving.TheVariants.{NoHeap, OneHea
 use Rattle.heap_options.specs.Options.{options_at, nothing_left, one_left, two_left, three_left, where_holds, splits, last_first, last_second, triples_at, triples}
 use Rattle.heap_options.specs.declared.left.Left.{Left}
 use Rattle.heap_options.specs.declared.left.Left.TheVariants.{Nothing, One, Two, Three}
-use Rattle.pretending.specs.Pretending.{Pretending, IsPretending}
+use Rattle.monoid_table.specs.Pretending.{Pretending, IsPretending}
 use Rattle.transition_algebra.specs.Heaps.{bound_of, largest_part}
 use Rattle.transition_algebra.specs.Work.{Trying, tries, opening, tried, turn, turns, heap_cost, most_turns}
 use Rattle.transition_algebra.specs.OverSets.{Pair}

@@ -6,7 +6,7 @@ use Rattle.misere_theory.specs.Pairs.{heap_bound}
 use Rattle.misere_theory.proofs.Bound.{bound_with, bound_without}
 use Rattle.misere_theory.proofs.LocalRule.{true_or_false}
 use Rattle.misere_theory.proofs.Counting.{kind_full, kind_partial, bound_whole, bound_part, bound_counts}
-use Rattle.pretending.specs.Pretending.{Pretending, IsPretending, kind_of, HasElement}
+use Rattle.monoid_table.specs.Pretending.{Pretending, IsPretending, kind_of, HasElement}
 use Rattle.transition_algebra.specs.Heaps.{bound_of}
 
 -- the heaps up to the bound have elements

@@ -5,8 +5,8 @@ use Rattle.misere_theory.specs.Pairs.{SameHeapPair}
 use Rattle.misere_theory.specs.Quotients.{Claim}
 use Rattle.misere_theory.proofs.Counting.{shown_in}
 use Rattle.monoid_table.specs.Grids.{Grid}
-use Rattle.pretending.specs.Pretending.{Pretending, IsPretending, kind_of, HasElement}
-use Rattle.pretending.specs.Tables.{Agrees}
+use Rattle.monoid_table.specs.Pretending.{Pretending, IsPretending, kind_of, HasElement}
+use Rattle.monoid_table.specs.PretendingTables.{Agrees}
 use Rattle.transition_algebra.specs.Heaps.{IsHeapPair, IsHeapPairs, bound_of}
 use Rattle.transition_algebra.specs.OverSets.{Pair}
 use Rattle.transition_algebra.proofs.Claims.{periodic}

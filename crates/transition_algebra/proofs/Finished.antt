@@ -12,8 +12,8 @@ use Rattle.heap_options.specs.Walks.{begun, stages, stages_left}
 use Rattle.heap_options.specs.declared.walk.Untried.{Untried}
 use Rattle.heap_options.specs.declared.walk.Untried.TheVariants.{Everything, Splits, Triples}
 use Rattle.heap_options.specs.declared.walk.Walk.{Walk}
-use Rattle.pretending.specs.Pretending.{Pretending, IsPretending}
-use Rattle.pretending.specs.Tables.{IsInto}
+use Rattle.monoid_table.specs.Pretending.{Pretending, IsPretending}
+use Rattle.monoid_table.specs.PretendingTables.{IsInto}
 use Rattle.transition_algebra.specs.Heaps.{bound_of, largest_part}
 use Rattle.transition_algebra.specs.Work.{opening, heap_cost, most_turns, HeapWork, IsDone, worked}
 use Rattle.transition_algebra.specs.Trials.{with_left, IsTrial}

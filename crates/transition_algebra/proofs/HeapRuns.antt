@@ -14,7 +14,7 @@ use Rattle.heap_options.proofs.WalkLaws.{no_bit, no_bit_three, none_untried}
 use Rattle.heap_options.specs.declared.left.Left.TheVariants.{Two}
 use Rattle.heap_options.specs.declared.walk.Untried.{Untried}
 use Rattle.heap_options.specs.declared.walk.Untried.TheVariants.{Everything, Splits, Triples}
-use Rattle.pretending.specs.Pretending.{Pretending, phi_at}
+use Rattle.monoid_table.specs.Pretending.{Pretending, phi_at}
 use Rattle.transition_algebra.specs.Heaps.{bound_of, largest_part}
 use Rattle.transition_algebra.specs.Work.{tries, turns}
 use Rattle.transition_algebra.specs.Trials.{seen_at, with_left, after_heap, IsUntried, trying_of, IsTrial, IsRun}

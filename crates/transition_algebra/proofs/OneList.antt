@@ -14,8 +14,8 @@ use Rattle.heap_options.specs.declared.left.Left.{Left}
 use Rattle.misere_theory.proofs.ListLaws.{nothing_in, only_in, itself_in}
 use Rattle.heap_options.proofs.OptionLaws.{of_options, only, cut}
 use Rattle.monoid_table.specs.Grids.{Grid, times_in}
-use Rattle.pretending.specs.Pretending.{Pretending, IsPretending, HasElement}
-use Rattle.pretending.specs.Tables.{Agrees, IsInto}
+use Rattle.monoid_table.specs.Pretending.{Pretending, IsPretending, HasElement}
+use Rattle.monoid_table.specs.PretendingTables.{Agrees, IsInto}
 use Rattle.transition_algebra.specs.Heaps.{IsHeapPair, IsHeapPairs, AreAllHeapPairs, bound_of, largest_part, left_value, heap_pair, all_heap_pairs}
 use Rattle.transition_algebra.specs.PairLaws.{has, same_pair}
 use Rattle.transition_algebra.specs.OverSets.{Pair}

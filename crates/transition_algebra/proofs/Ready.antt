@@ -7,9 +7,9 @@ use native.Mathlib.Decide.{dec_le}
 use Rattle.misere_theory.specs.Games.{IsCode}
 use Rattle.misere_theory.specs.Quotients.{Monoid}
 use Rattle.monoid_table.specs.Grids.{Grid, times_in}
-use Rattle.pretending.specs.Pretending.{Pretending, IsPretending, phi_at}
+use Rattle.monoid_table.specs.Pretending.{Pretending, IsPretending, phi_at}
 use Rattle.transition_algebra.specs.Pairs.{IsPair, one}
-use Rattle.pretending.specs.Tables.{IsInto}
+use Rattle.monoid_table.specs.PretendingTables.{IsInto}
 use Rattle.transition_algebra.specs.Trials.{trying_of, IsTrial, IsReady}
 use Rattle.transition_algebra.specs.OverSets.{Pair, Trial}
 use Rattle.transition_algebra.proofs.Counted.{bound_small, counted}

@@ -12,8 +12,8 @@ use Rattle.misere_theory.specs.Quotients.{Monoid}
 use Rattle.heap_options.specs.declared.left.Left.{Left}
 use Rattle.heap_options.specs.declared.left.Left.TheVariants.{Nothing, One, Two, Three}
 use Rattle.monoid_table.specs.Grids.{Grid, times_in}
-use Rattle.pretending.specs.Pretending.{Pretending, phi_at}
-use Rattle.pretending.specs.Tables.{IsInto}
+use Rattle.monoid_table.specs.Pretending.{Pretending, phi_at}
+use Rattle.monoid_table.specs.PretendingTables.{IsInto}
 use Rattle.transition_algebra.specs.Heaps.{left_value}
 
 below : (m n : ℕ) → m < n → ltb m n ≡ true

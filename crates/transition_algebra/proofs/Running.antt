@@ -6,7 +6,7 @@ use Rattle.std.specs.Ordering.{nat_cmp}
 use Rattle.monoid_table.specs.Grids.{Grid}
 use Rattle.heap_options.specs.Walks.{left_at, stages_left}
 use Rattle.heap_options.specs.declared.left.Left.{Left}
-use Rattle.pretending.specs.Pretending.{Pretending}
+use Rattle.monoid_table.specs.Pretending.{Pretending}
 use Rattle.transition_algebra.specs.Heaps.{bound_of, largest_part, left_value}
 use Rattle.transition_algebra.specs.Work.{opening, turns, heap_cost}
 use Rattle.transition_algebra.specs.Trials.{with_left, IsUntried, trying_of, IsTrial, IsRun}

@@ -20,7 +20,7 @@ use Rattle.heap_options.specs.declared.left.Left.{Left}
 use Rattle.heap_options.specs.declared.left.Left.TheVariants.{Two, Three}
 use Rattle.heap_options.specs.declared.walk.Untried.{Untried}
 use Rattle.heap_options.specs.declared.walk.Untried.TheVariants.{Everything, Splits, Triples}
-use Rattle.pretending.specs.Pretending.{Pretending}
+use Rattle.monoid_table.specs.Pretending.{Pretending}
 use Rattle.transition_algebra.specs.Heaps.{bound_of, largest_part}
 use Rattle.transition_algebra.specs.Work.{turns}
 use Rattle.transition_algebra.specs.Trials.{cuts, tried_before, seen_at, with_left, after_single, after_splits, after_triples, after_row, after_cut, IsUntried, trying_of, IsTrial, IsRun}

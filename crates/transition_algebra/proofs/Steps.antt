@@ -12,8 +12,8 @@ use Rattle.misere_theory.specs.Quotients.{Claim, Monoid, HeapOptionValue}
 use Rattle.heap_options.specs.declared.left.Left.{Left}
 use Rattle.misere_theory.proofs.ListLaws.{nothing_in}
 use Rattle.monoid_table.specs.Grids.{Grid, times_in}
-use Rattle.pretending.specs.Pretending.{Pretending, phi_at, IsPretending, HasElement}
-use Rattle.pretending.specs.Tables.{Agrees, IsInto}
+use Rattle.monoid_table.specs.Pretending.{Pretending, phi_at, IsPretending, HasElement}
+use Rattle.monoid_table.specs.PretendingTables.{Agrees, IsInto}
 use Rattle.transition_algebra.specs.Heaps.{IsHeapPair, IsHeapPairs, left_value}
 use Rattle.transition_algebra.specs.PairLaws.{has, has_insert, insert_has, empty_has}
 use Rattle.transition_algebra.specs.Work.{tries}

@@ -10,8 +10,8 @@ use Rattle.std.specs.Ordering.{nat_cmp}
 use Rattle.misere_theory.specs.Quotients.{Monoid}
 use Rattle.monoid_table.specs.Grids.{Grid, times_in}
 use Rattle.heap_options.specs.declared.left.Left.{Left}
-use Rattle.pretending.specs.Pretending.{Pretending, IsPretending, phi_at}
-use Rattle.pretending.specs.Tables.{IsInto}
+use Rattle.monoid_table.specs.Pretending.{Pretending, IsPretending, phi_at}
+use Rattle.monoid_table.specs.PretendingTables.{IsInto}
 use Rattle.transition_algebra.specs.Heaps.{IsHeapPair, bound_of, left_value}
 use Rattle.transition_algebra.specs.Work.{Trying, tries, opening, tried, turn, turns}
 use Rattle.transition_algebra.specs.OverSets.{Pair}

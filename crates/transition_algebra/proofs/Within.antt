@@ -6,9 +6,9 @@ use Rattle.std.specs.FinSet as set
 use Rattle.std.proofs.lemmas.List.Elements.{All-from_get_or}
 use Rattle.misere_theory.specs.Quotients.{Claim, Monoid}
 use Rattle.monoid_table.specs.Grids.{Grid, times_in}
-use Rattle.pretending.specs.Pretending.{Pretending, phi_at, kind_of, HasElement}
+use Rattle.monoid_table.specs.Pretending.{Pretending, phi_at, kind_of, HasElement}
 use Rattle.transition_algebra.specs.Pairs.{IsPair}
-use Rattle.pretending.specs.Tables.{Agrees, IsInto}
+use Rattle.monoid_table.specs.PretendingTables.{Agrees, IsInto}
 use Rattle.transition_algebra.specs.Heaps.{bound_of}
 use Rattle.transition_algebra.specs.OverSets.{Pair}
 use Rattle.misere_theory.proofs.Counting.{kept_in}

@@ -8,8 +8,8 @@ use Rattle.monoid_table.specs.Grids.{Grid, times_in}
 use Rattle.heap_options.specs.Options.{options_of}
 use Rattle.heap_options.specs.declared.left.Left.{Left}
 use Rattle.heap_options.specs.declared.left.Left.TheVariants.{Nothing, One, Two, Three}
-use Rattle.pretending.specs.Pretending.{Pretending, phi_at, kind_of}
-use Rattle.pretending.specs.Tables.{Agrees}
+use Rattle.monoid_table.specs.Pretending.{Pretending, phi_at, kind_of}
+use Rattle.monoid_table.specs.PretendingTables.{Agrees}
 use Rattle.transition_algebra.specs.OverSets.{Pair}
 
 -- the pair has the heap's element and exactly the values of its options

@@ -14,7 +14,7 @@ use Rattle.heap_options.specs.declared.left.Left.{Left}
 use Rattle.heap_options.specs.declared.walk.Untried.{Untried}
 use Rattle.heap_options.specs.declared.walk.Untried.TheVariants.{Everything, Splits, Triples}
 use Rattle.heap_options.specs.declared.walk.Walk.{Walk}
-use Rattle.pretending.specs.Pretending.{Pretending, HasElement, phi_at}
+use Rattle.monoid_table.specs.Pretending.{Pretending, HasElement, phi_at}
 use Rattle.transition_algebra.specs.Pairs.{one}
 use Rattle.transition_algebra.specs.Heaps.{bound_of, largest_part, left_value}
 use Rattle.transition_algebra.specs.Work.{Trying, opening, turns, heap_cost}

@@ -8,7 +8,7 @@ use Rattle.misere_theory.specs.Games.{leaves_three}
 use Rattle.monoid_table.specs.Grids.{Grid}
 use Rattle.heap_options.specs.Options.{options_up_to}
 use Rattle.heap_options.specs.declared.left.Left.{Left}
-use Rattle.pretending.specs.Pretending.{Pretending, phi_at}
+use Rattle.monoid_table.specs.Pretending.{Pretending, phi_at}
 use Rattle.transition_algebra.specs.Heaps.{bound_of, largest_part, left_value}
 use Rattle.transition_algebra.specs.OverSets.{Pair}
 

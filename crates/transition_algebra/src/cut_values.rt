@@ -3,7 +3,7 @@ ghost use Rattle.std.specs.Prelude.{◌≡◌, ◌≤◌, IfOk};
 ghost use Rattle.monoid_table.specs.Grids.{Grid};
 ghost use Rattle.heap_options.specs.Options.{last_first, triples_at};
 ghost use Rattle.transition_algebra.specs.Heaps.{largest_part};
-ghost use Rattle.pretending.specs.Pretending.{Pretending};
+ghost use Rattle.monoid_table.specs.Pretending.{Pretending};
 ghost use Rattle.transition_algebra.specs.Trials.{AreShown, AreCutValues, AreKept, cut_values, leaving, with_left};
 ghost use Rattle.transition_algebra.specs.declared.cut_values.Cut.TheVariants.{InTwo, InThree};
 

@@ -1,7 +1,7 @@
 //! The pairs of the heaps, made in pieces.
 ghost use Rattle.std.specs.Prelude.{◌≡◌, ◌*◌, ◌⊎◌, ◌+◌, ◌<◌, ◌≤◌, ◌↔◌, All, IsTrue, IsErr, IfOk, OnOk, OnErr, true, false};
 ghost use Rattle.transition_algebra.specs.Pairs.{IsPair};
-ghost use Rattle.pretending.specs.Tables.{IsInto};
+ghost use Rattle.monoid_table.specs.PretendingTables.{IsInto};
 ghost use Rattle.transition_algebra.specs.Heaps.{AreAllHeapPairs, all_heap_pairs, bound_of};
 ghost use Rattle.transition_algebra.specs.Work.{IsDone, worked, heap_cost, turns, opening};
 
@@ -11,9 +11,8 @@ use crate::scene::Scene;
 use crate::trial::Trial;
 use allocation::Memory;
 use element_sets::LaneSet;
-use monoid_table::{Table, is_monoid};
+use monoid_table::{Phi, Table, is_monoid, is_pretending};
 use octal_code::Code;
-use pretending::{Phi, is_pretending};
 use std::alloc::{Allocator, Global};
 use std::marker::Model;
 
@@ -44,7 +43,7 @@ impl<const LANES: usize, A: Allocator> Model for HeapJob<LANES, A> {
       refused = j.refused;
     } };
 
-    ghost use Rattle.pretending.specs.Tables.{IsInto};
+    ghost use Rattle.monoid_table.specs.PretendingTables.{IsInto};
     ghost use Rattle.transition_algebra.specs.Trials.{IsTrial, AreKept};
 
     ghost invariant = { λ j. (j.table.order ≤ 64 * LANES)

@@ -3,8 +3,8 @@ ghost use Rattle.std.specs.Prelude.{◌≡◌, ◌*◌, ◌≤◌, ◌+◌, ◌-
 ghost use Rattle.misere_theory.specs.Games.{IsPosition};
 ghost use Rattle.heap_options.specs.Exact.{heaps_of};
 ghost use Rattle.transition_algebra.specs.Pairs.{IsPair};
-ghost use Rattle.pretending.specs.Pretending.{HasElement};
-ghost use Rattle.pretending.specs.Tables.{IsInto};
+ghost use Rattle.monoid_table.specs.Pretending.{HasElement};
+ghost use Rattle.monoid_table.specs.PretendingTables.{IsInto};
 ghost use Rattle.transition_algebra.specs.Heaps.{AreAllHeapPairs, all_heap_pairs, bound_of, left_value};
 
 use crate::cut_values::CutValues;
@@ -14,9 +14,8 @@ use crate::trial::Trial;
 use allocation::Memory;
 use element_sets::LaneSet;
 use heap_options::Left;
-use monoid_table::{Table, is_monoid};
+use monoid_table::{Phi, Table, is_monoid, is_pretending};
 use octal_code::{Code, is_code};
-use pretending::{Phi, is_pretending};
 use std::alloc::Allocator;
 
 /// B: the heaps 1 to B show the pair of every heap that has an element.

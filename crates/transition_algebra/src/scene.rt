@@ -1,11 +1,10 @@
 //! Whose options are tried.
 ghost use Rattle.std.specs.Prelude.{◌*◌, ◌≤◌};
 ghost use Rattle.std.proofs.Props.{props};
-ghost use Rattle.pretending.specs.Tables.{IsInto};
+ghost use Rattle.monoid_table.specs.PretendingTables.{IsInto};
 
-use monoid_table::Table;
+use monoid_table::{Phi, Table};
 use octal_code::Code;
-use pretending::Phi;
 use std::alloc::Allocator;
 
 /// What a trial is of: a code, a table whose elements fit in the lanes, and those of the heaps.

@@ -2,7 +2,7 @@
 ghost use Rattle.std.specs.Prelude.{◌≡◌, ◌⊎◌, ◌+◌, ◌^◌, ◌<◌, ◌≤◌, ◌↔◌, [], ◌∷◌, ◌++◌, length, min, IsTrue, IfOk, OnErr, OnOk};
 ghost use Rattle.monoid_table.specs.Grids.{Grid};
 ghost use Rattle.heap_options.specs.Walks.{single_left, splits_to_try, triples_to_try};
-ghost use Rattle.pretending.specs.Pretending.{phi_at, HasElement};
+ghost use Rattle.monoid_table.specs.Pretending.{phi_at, HasElement};
 ghost use Rattle.transition_algebra.specs.Work.{heap_cost};
 ghost use Rattle.transition_algebra.specs.Trials.{IsTrial, GoesOn, IsReady, IsRun, AreShown, AreKept, after_single, after_splits, after_triples, after_cut, after_heap};
 
@@ -13,9 +13,8 @@ use crate::scene::Scene;
 use allocation::Memory;
 use element_sets::LaneSet;
 use heap_options::{Untried, Walk};
-use monoid_table::is_monoid;
+use monoid_table::{Phi, is_monoid, is_pretending};
 use octal_code::{Code, is_code};
-use pretending::{Phi, is_pretending};
 use std::alloc::Allocator;
 
 /// How far the options of the heaps 1 to `bound` are tried: the walk over those of the heap in

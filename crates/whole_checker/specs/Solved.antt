@@ -10,7 +10,7 @@ use Rattle.dominance.specs.Triples.{claim_by, triple_of}
 use Rattle.dominance_text.specs.Said.{DominanceSaid}
 use Rattle.dominance_text.specs.Labels.{label_of}
 use Rattle.dominance_text.specs.Spelling.{SpellsDominance}
-use Rattle.infinite_answers.specs.Answers.{Why, Text, Outcome, Undecided, Memory}
+use Rattle.answers.specs.InfiniteAnswers.{Why, Text, Outcome, Undecided, Memory}
 
 -- What is said is right of the whole game, of any number of heaps of any size. The product of the heaps'
 -- triples tells the outcome of each position, and two positions are indistinguishable exactly if their

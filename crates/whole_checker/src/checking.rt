@@ -6,16 +6,16 @@ ghost use Rattle.dominance.specs.Triples.{IsElement, claim_by};
 ghost use Rattle.dominance_text.specs.Labels.{label_of};
 ghost use Rattle.dominance_text.specs.Said.{IsInRanges};
 ghost use Rattle.dominance_text.specs.Spelling.{SpellsDominance};
-ghost use Rattle.infinite_answers.specs.Refusals.{refused};
+ghost use Rattle.answers.specs.InfiniteRefusals.{refused};
 ghost use Rattle.whole_checker.specs.Solved.{IsRefusedWhole, IsRefutedWhole, IsSolved};
 
 use crate::game::WholeGame;
 use crate::ranks::ranks;
 use allocation::{Memory, SmallAllocator};
-use dominance_certificate::{DominanceText, TextFault, read};
+use dominance_text::{DominanceText, TextFault, read};
 use dominance_checker::{Shape, is_accepted, is_represented};
-use dominance_rule::failing_position;
-use infinite_answers::InfiniteRefusal;
+use crate::failing_position;
+use answers::InfiniteRefusal;
 use std::alloc::Allocator;
 
 /// From which heap on the text's numbers repeat.

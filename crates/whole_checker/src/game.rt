@@ -3,7 +3,7 @@ ghost use Rattle.std.specs.Prelude.{◌≡◌};
 ghost use Rattle.dominance_text.specs.Said.{IsInRanges};
 ghost use Rattle.whole_checker.specs.Solved.{IsSolved};
 
-use dominance_certificate::DominanceText;
+use dominance_text::DominanceText;
 use octal_code::Code;
 use std::alloc::{Allocator, Global};
 use std::marker::Model;

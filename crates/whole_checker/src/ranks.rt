@@ -4,7 +4,7 @@ ghost use Rattle.dominance_checker.specs.Ranks.{rank_at, triple_in};
 ghost use Rattle.dominance_text.specs.Labels.{listed_triple};
 
 use allocation::Memory;
-use dominance_certificate::DominanceText;
+use dominance_text::DominanceText;
 use dominance_checker::Rank;
 use std::alloc::Allocator;
 

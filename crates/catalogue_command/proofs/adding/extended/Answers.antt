@@ -1,5 +1,5 @@
 use Rattle.std.proofs.Common.{◌≡◌, ◌∙◌, ap, arith, ℕ, List, Option, Bool, true, false, sym, subst}
-use Rattle.folders.specs.Files.{Replaces}
+use Rattle.streams.specs.Files.{Replaces}
 use Rattle.check_machine.specs.Turns.{verdict}
 use Rattle.catalogue_command.proofs.Fronts.{whole_of}
 use Rattle.misere_theory.specs.Certificates.{Certificate}

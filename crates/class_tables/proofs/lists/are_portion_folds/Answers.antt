@@ -1,6 +1,6 @@
 use Rattle.std.proofs.Common.{◌∙◌, ap, subst}
 use Rattle.presented_text.specs.Said.{PresentedSaid}
-use Rattle.word_cells.specs.Folds.{AreFiner}
+use Rattle.presented_claims.specs.Folds.{AreFiner}
 use Rattle.class_tables.proofs.lists.are_portion_folds.Goals as goal
 
 pub returns-then-are_folds-clause-finer : goal.returns-then-are_folds-clause-finer

@@ -1,7 +1,7 @@
 use Rattle.std.proofs.Common.{◌≡◌, ◌<◌, ◌∙◌, length, ap, subst, sym, true, false}
 use Rattle.presented_claims.specs.Claims.{IsElement}
 use Rattle.presented_tables.specs.declared.beside.Beside.TheVariants.{Bad, Good}
-use Rattle.word_cells.specs.Folds.{AreFiner}
+use Rattle.presented_claims.specs.Folds.{AreFiner}
 use Rattle.class_tables.specs.Classes.{word_at, AreBeside}
 use Rattle.class_tables.specs.Tables.{ClassLists, IsMark}
 use Rattle.class_tables.proofs.Imaged.{mark-is}

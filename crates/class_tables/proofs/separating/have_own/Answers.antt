@@ -1,7 +1,7 @@
 use Rattle.std.proofs.Common.{◌≤◌, length, refl, arith}
 use Rattle.presentations.specs.declared.TheConstants.{LETTERS}
 use Rattle.presented_tables.proofs.Below.{below}
-use Rattle.told_cells.specs.Led.{RunsOn}
+use Rattle.presented_claims.specs.Led.{RunsOn}
 use Rattle.class_tables.specs.Separated.{HasOwn}
 use Rattle.class_tables.proofs.separating.have_own.Goals as goal
 

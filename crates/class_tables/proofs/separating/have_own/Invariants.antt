@@ -1,6 +1,6 @@
 use Rattle.std.proofs.Common.{ℕ, ◌<◌, ◌≤◌, length}
 use Rattle.presentations.specs.declared.TheConstants.{LETTERS}
-use Rattle.told_cells.specs.Led.{RunsOn}
+use Rattle.presented_claims.specs.Led.{RunsOn}
 use Rattle.class_tables.specs.Separated.{HasOwn}
 use Rattle.class_tables.proofs.separating.have_own.Given as goal
 

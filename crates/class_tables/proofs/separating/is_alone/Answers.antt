@@ -1,5 +1,5 @@
 use Rattle.std.proofs.Common.{◌∙◌, ℕ, ap, subst}
-use Rattle.told_cells.specs.Led.{RunsOn}
+use Rattle.presented_claims.specs.Led.{RunsOn}
 use Rattle.class_tables.specs.Classes.{word_at}
 use Rattle.class_tables.specs.Tables.{ClassLists}
 use Rattle.class_tables.proofs.separating.is_alone.Goals as goal

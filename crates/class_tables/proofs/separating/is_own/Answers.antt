@@ -1,7 +1,7 @@
 use Rattle.std.proofs.Common.{◌≡◌, ◌≢◌, refl, arith}
 use Rattle.std.specs.Prelude.{slice_index}
 use Rattle.presented_tables.proofs.Below.{below}
-use Rattle.told_cells.specs.Led.{RunsOn}
+use Rattle.presented_claims.specs.Led.{RunsOn}
 use Rattle.class_tables.specs.Leads.{turn_of}
 use Rattle.class_tables.proofs.separating.is_own.Goals as goal
 

@@ -1,6 +1,6 @@
 use Rattle.std.proofs.Common.{length, ◌≤◌, ◌∙◌, ap, subst, sym, arith}
 use Rattle.presentations.specs.declared.TheConstants.{LETTERS}
-use Rattle.told_cells.specs.Led.{weight_of}
+use Rattle.presented_claims.specs.Led.{weight_of}
 use Rattle.class_tables.specs.Leads.{Led}
 use Rattle.class_tables.specs.Tables.{ClassLists}
 use Rattle.class_tables.specs.Separated.{IsLowered}

@@ -1,6 +1,6 @@
 use Rattle.std.proofs.Common.{refl, arith}
 use Rattle.presented_tables.proofs.Below.{below}
-use Rattle.told_cells.specs.Led.{RunsOn}
+use Rattle.presented_claims.specs.Led.{RunsOn}
 use Rattle.class_tables.proofs.separating.runs_none.Goals as goal
 
 pub loop-j-preserved : goal.loop-j-preserved

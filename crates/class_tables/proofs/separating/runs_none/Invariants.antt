@@ -1,5 +1,5 @@
 use Rattle.std.proofs.Common.{ℕ, ◌<◌}
-use Rattle.told_cells.specs.Led.{RunsOn}
+use Rattle.presented_claims.specs.Led.{RunsOn}
 use Rattle.class_tables.proofs.separating.runs_none.Given as goal
 
 abbrev pub invariant-loop-j : goal.invariant-loop-j

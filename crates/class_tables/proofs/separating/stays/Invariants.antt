@@ -1,6 +1,6 @@
 use Rattle.std.proofs.Common.{◌≡◌, ℕ, ◌<◌}
 use Rattle.std.specs.Prelude.{slice_index}
-use Rattle.told_cells.specs.Led.{RunsOn}
+use Rattle.presented_claims.specs.Led.{RunsOn}
 use Rattle.class_tables.specs.Leads.{turn_of}
 use Rattle.class_tables.proofs.separating.stays.Given as goal
 

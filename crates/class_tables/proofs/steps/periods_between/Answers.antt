@@ -2,7 +2,7 @@ use Rattle.std.proofs.Common.{◌≡◌, ◌∙◌, ℕ, ◌+◌, ◌*◌, ◌<�
 use Rattle.std.specs.Prelude.{slice_index}
 use Rattle.std.proofs.lemmas.List.{length-set}
 use Rattle.presentations.specs.declared.TheConstants.{LETTERS}
-use Rattle.word_cells.specs.Folds.{at_letter}
+use Rattle.presented_claims.specs.Folds.{at_letter}
 use Rattle.class_tables.proofs.Pushed.{set-below}
 use Rattle.presented_tables.proofs.Words.{sum-word}
 use Rattle.class_tables.proofs.steps.periods_between.Goals as goal

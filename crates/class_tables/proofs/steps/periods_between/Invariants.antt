@@ -1,7 +1,7 @@
 use Rattle.std.proofs.Common.{◌≡◌, ℕ, ◌+◌, ◌*◌, ◌<◌, ◌≤◌, length}
 use Rattle.std.specs.Prelude.{slice_index}
 use Rattle.presentations.specs.declared.TheConstants.{LETTERS}
-use Rattle.word_cells.specs.Folds.{at_letter}
+use Rattle.presented_claims.specs.Folds.{at_letter}
 use Rattle.class_tables.proofs.steps.periods_between.Given as goal
 
 abbrev pub invariant-loop-i : goal.invariant-loop-i

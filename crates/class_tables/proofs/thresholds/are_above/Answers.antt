@@ -1,6 +1,6 @@
 use Rattle.std.proofs.Common.{ℕ, ◌<◌, ◌≤◌, length, refl, subst, arith}
 use Rattle.std.specs.Prelude.{slice_index}
-use Rattle.word_cells.specs.Folds.{at_letter}
+use Rattle.presented_claims.specs.Folds.{at_letter}
 use Rattle.relations.proofs.Each.{each-next}
 use Rattle.class_tables.proofs.thresholds.are_above.Goals as goal
 

@@ -1,5 +1,5 @@
 use Rattle.std.proofs.Common.{ℕ, ◌<◌, ◌≤◌}
-use Rattle.word_cells.specs.Folds.{at_letter}
+use Rattle.presented_claims.specs.Folds.{at_letter}
 use Rattle.class_tables.proofs.thresholds.have_periods.Given as goal
 
 abbrev pub invariant-loop-i : goal.invariant-loop-i

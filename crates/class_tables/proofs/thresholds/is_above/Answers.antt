@@ -1,6 +1,6 @@
 use Rattle.std.proofs.Common.{◌≤◌, refl, arith}
 use Rattle.std.specs.Prelude.{slice_index}
-use Rattle.word_cells.specs.Folds.{at_letter}
+use Rattle.presented_claims.specs.Folds.{at_letter}
 use Rattle.presented_tables.proofs.Below.{below}
 use Rattle.class_tables.proofs.thresholds.is_above.Goals as goal
 

@@ -1,6 +1,6 @@
 use Rattle.std.proofs.Common.{ℕ, ◌<◌, ◌≤◌}
 use Rattle.std.specs.Prelude.{slice_index}
-use Rattle.word_cells.specs.Folds.{at_letter}
+use Rattle.presented_claims.specs.Folds.{at_letter}
 use Rattle.class_tables.proofs.thresholds.is_above.Given as goal
 
 abbrev pub invariant-loop-i : goal.invariant-loop-i

@@ -1,5 +1,5 @@
 use Rattle.std.proofs.Common.{◌∙◌, ap, subst}
-use Rattle.word_cells.specs.Folds.{AreFiner}
+use Rattle.presented_claims.specs.Folds.{AreFiner}
 use Rattle.class_tables.specs.Tables.{ClassLists}
 use Rattle.class_tables.proofs.turning.are_fine_folds.Goals as goal
 

@@ -1,5 +1,5 @@
 use Rattle.std.proofs.Common.{refl, subst, sym}
-use Rattle.word_cells.specs.Folds.{HavePeriods, AreFiner}
+use Rattle.presented_claims.specs.Folds.{HavePeriods, AreFiner}
 use Rattle.class_tables.specs.Classes.{AreFolds, AreClasses}
 use Rattle.class_tables.proofs.turning.fine_classes.Goals as goal
 

@@ -1,5 +1,5 @@
 use Rattle.std.proofs.Common.{◌≡◌, ◌+◌}
-use Rattle.told_cells.specs.Led.{weight_of}
+use Rattle.presented_claims.specs.Led.{weight_of}
 use Rattle.class_tables.proofs.Indexed.{from}
 use Rattle.class_tables.proofs.weighing.weight.Given as goal
 

@@ -1,6 +1,6 @@
 use Rattle.std.proofs.Common.{ap}
 use Rattle.std.proofs.lemmas.Result.{err_from_is_err_and}
-use Rattle.desk_script.specs.Views.{steps_of}
+use Rattle.desk.specs.Views.{steps_of}
 use Rattle.streams.specs.Printers.{printer}
 use Rattle.desk_command.proofs.Going.{breaks_in_writing, gone_nowhere, gone_on}
 use Rattle.desk_command.proofs.running.run_steps.Goals as goal

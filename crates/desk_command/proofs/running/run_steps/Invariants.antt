@@ -1,6 +1,6 @@
 use Rattle.std.specs.Vec.Iter.{into_iter_items}
 use Rattle.desk.specs.Desks.{state_of}
-use Rattle.desk_script.specs.Views.{steps_of}
+use Rattle.desk.specs.Views.{steps_of}
 use Rattle.streams.specs.Printers.{printer}
 use Rattle.desk_command.proofs.Going.{HasGone}
 use Rattle.desk_command.proofs.running.run_steps.Given as goal

@@ -1,6 +1,6 @@
 use Rattle.std.proofs.Common.{rules, subst, sym, ◌≡◌, List, ℕ}
 use Rattle.std.specs.String.{string_bytes}
-use Rattle.infinite_answers.specs.Refusals.{refused}
+use Rattle.answers.specs.InfiniteRefusals.{refused}
 use Rattle.given_quotients.specs.Told.{IsRefusalText}
 use Rattle.given_quotients.proofs.presented.judged_presented.Goals as goal
 

@@ -1,6 +1,6 @@
 use Rattle.std.proofs.Common.{arith}
 use Rattle.infinite_queries.specs.Asked.{TellsAnswer}
-use Rattle.told_answers.proofs.Entries.{list_next, all_listed}
+use Rattle.player.proofs.Entries.{list_next, all_listed}
 use Rattle.infinite_queries.proofs.many.all_answers.Goals as goal
 
 pub loop-at-preserved : goal.loop-at-preserved

@@ -1,6 +1,6 @@
 use Rattle.std.proofs.Common.{arith}
 use Rattle.infinite_queries.specs.Asked.{TellsOutcome}
-use Rattle.told_answers.proofs.Entries.{fill_next, all_filled}
+use Rattle.player.proofs.Entries.{fill_next, all_filled}
 use Rattle.infinite_queries.proofs.many.fill_outcomes.Goals as goal
 
 pub loop-at-preserved : goal.loop-at-preserved

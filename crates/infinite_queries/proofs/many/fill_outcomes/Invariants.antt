@@ -1,5 +1,5 @@
 use Rattle.infinite_queries.specs.Asked.{TellsOutcome}
-use Rattle.told_answers.proofs.Entries.{AreFilled}
+use Rattle.player.proofs.Entries.{AreFilled}
 use Rattle.infinite_queries.proofs.many.fill_outcomes.Given as goal
 
 abbrev pub invariant-loop-at : goal.invariant-loop-at

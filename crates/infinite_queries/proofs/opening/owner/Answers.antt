@@ -1,5 +1,5 @@
 use Rattle.std.proofs.Common.{refl, arith, inl}
-use Rattle.infinite_answers.specs.Answers.{Memory}
+use Rattle.answers.specs.InfiniteAnswers.{Memory}
 use Rattle.infinite_queries.proofs.opening.owner.Goals as goal
 
 pub returns-in-Err-clause-no : goal.returns-in-Err-clause-no

@@ -1,6 +1,6 @@
 use Rattle.std.proofs.Common.{◌≡◌, subst, IfOk}
 use Rattle.std.proofs.lemmas.Result.{IfOk-weaker}
-use Rattle.opened_infinite.specs.declared.text.AcceptedText.{AcceptedText}
+use Rattle.opened.specs.declared.text.AcceptedText.{AcceptedText}
 use Rattle.infinite_queries.specs.Asked.{TellsAnswer}
 use Rattle.infinite_queries.proofs.queries.answer_by.Goals as goal
 

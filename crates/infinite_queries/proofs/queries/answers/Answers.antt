@@ -1,8 +1,8 @@
 use Rattle.std.proofs.Common.{◌≡◌, List, sym, subst}
-use Rattle.opened_infinite.specs.declared.text.AcceptedText.{AcceptedText}
+use Rattle.opened.specs.declared.text.AcceptedText.{AcceptedText}
 use Rattle.infinite_queries.specs.Asked.{TellsAnswer}
-use Rattle.told_answers.specs.Many.{TellAll}
-use Rattle.told_answers.specs.declared.numbers.MisereAnswer.{MisereAnswer}
+use Rattle.player.specs.Many.{TellAll}
+use Rattle.player.specs.declared.numbers.MisereAnswer.{MisereAnswer}
 use Rattle.infinite_queries.proofs.queries.answers.Goals as goal
 
 pub returns-in-Ok-clause-yes : goal.returns-in-Ok-clause-yes

@@ -1,6 +1,6 @@
 use Rattle.std.proofs.Common.{arith}
 use Rattle.misere_library.specs.Queries.{TellsAnswer}
-use Rattle.told_answers.proofs.Entries.{list_next, all_listed}
+use Rattle.player.proofs.Entries.{list_next, all_listed}
 use Rattle.misere_library.proofs.many.all_answers.Goals as goal
 
 pub loop-at-preserved : goal.loop-at-preserved

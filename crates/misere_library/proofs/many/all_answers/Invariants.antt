@@ -1,5 +1,5 @@
 use Rattle.misere_library.specs.Queries.{TellsAnswer}
-use Rattle.told_answers.proofs.Entries.{AreListed}
+use Rattle.player.proofs.Entries.{AreListed}
 use Rattle.misere_library.proofs.many.all_answers.Given as goal
 
 abbrev pub invariant-loop-at : goal.invariant-loop-at

@@ -1,6 +1,6 @@
 use Rattle.std.proofs.Common.{arith}
 use Rattle.misere_library.specs.Questions.{TellsAsked}
-use Rattle.told_answers.proofs.Entries.{fill_next, all_filled}
+use Rattle.player.proofs.Entries.{fill_next, all_filled}
 use Rattle.misere_library.proofs.many.fill.Goals as goal
 
 pub loop-at-preserved : goal.loop-at-preserved

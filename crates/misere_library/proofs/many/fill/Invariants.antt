@@ -1,5 +1,5 @@
 use Rattle.misere_library.specs.Questions.{TellsAsked}
-use Rattle.told_answers.proofs.Entries.{AreFilled}
+use Rattle.player.proofs.Entries.{AreFilled}
 use Rattle.misere_library.proofs.many.fill.Given as goal
 
 abbrev pub invariant-loop-at : goal.invariant-loop-at

@@ -1,7 +1,7 @@
 use Rattle.std.proofs.Common.{◌≡◌, List, sym, subst}
 use Rattle.misere_library.specs.Queries.{TellsAnswer}
-use Rattle.told_answers.specs.Many.{TellAll}
-use Rattle.told_answers.specs.declared.numbers.MisereAnswer.{MisereAnswer}
+use Rattle.player.specs.Many.{TellAll}
+use Rattle.player.specs.declared.numbers.MisereAnswer.{MisereAnswer}
 use Rattle.misere_library.proofs.many.fill_answers.Goals as goal
 
 pub returns-in-Ok-clause-yes : goal.returns-in-Ok-clause-yes

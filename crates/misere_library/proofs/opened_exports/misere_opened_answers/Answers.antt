@@ -1,7 +1,7 @@
 use Rattle.std.proofs.Common.{◌≡◌, subst}
 use Rattle.misere_theory.specs.Certificates.{Certificate}
 use Rattle.misere_library.specs.Queries.{TellsAnswer}
-use Rattle.told_answers.specs.Many.{TellAll}
+use Rattle.player.specs.Many.{TellAll}
 use Rattle.misere_library.proofs.opened_exports.misere_opened_answers.Goals as goal
 
 pub returns-clause-yes : goal.returns-clause-yes

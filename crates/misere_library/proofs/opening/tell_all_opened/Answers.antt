@@ -1,7 +1,7 @@
 use Rattle.std.proofs.Common.{◌≡◌, subst}
 use Rattle.misere_theory.specs.Certificates.{Certificate}
 use Rattle.misere_library.specs.Questions.{TellsAsked}
-use Rattle.told_answers.specs.Many.{TellAll}
+use Rattle.player.specs.Many.{TellAll}
 use Rattle.misere_library.proofs.opening.tell_all_opened.Goals as goal
 
 pub returns-clause-yes : goal.returns-clause-yes

@@ -1,6 +1,6 @@
 use Rattle.std.proofs.Common.{◌+◌, ◌∙◌, sym, ap, subst}
 use Rattle.std.specs.Prelude.{slice_index}
-use Rattle.normal_play.specs.Normal.{nim_sum}
+use Rattle.nim_tails.specs.Normal.{nim_sum}
 use Rattle.nim_tails.proofs.Sums.{AreSumsBelow, one_sum_more}
 use Rattle.nim_tails.proofs.elements.element_sums.Goals as goal
 

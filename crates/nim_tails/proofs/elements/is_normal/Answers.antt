@@ -1,8 +1,8 @@
 use Rattle.std.proofs.Common.{◌≡◌, ◌<◌, ◌≤◌, ◌∙◌, ap, sym, subst, arith}
 use Rattle.std.specs.Prelude.{slice_index}
 use Rattle.misere_theory.specs.Certificates.{Certificate, kind_of}
-use Rattle.normal_play.specs.Normal.{AreNimValues}
-use Rattle.nim_values.specs.Values.{IsNimFault}
+use Rattle.nim_tails.specs.Normal.{AreNimValues}
+use Rattle.nim_tails.specs.Values.{IsNimFault}
 use Rattle.nim_tails.specs.Tails.{AreElementSums, IsNormal}
 use Rattle.nim_tails.proofs.Tested.{raised}
 use Rattle.nim_tails.proofs.elements.is_normal.Goals as goal

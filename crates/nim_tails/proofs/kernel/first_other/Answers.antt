@@ -2,7 +2,7 @@ use Rattle.std.proofs.Common.{◌≡◌, ◌<◌, ◌∙◌, ap, refl, sym, subs
 use Rattle.std.proofs.lemmas.Bool.{true≢false}
 use borrow.Author.Count.{below_more}
 use Rattle.misere_theory.specs.Certificates.{Certificate, claim_of, times_of}
-use Rattle.normal_play.specs.Tails.{IsInLeastIdeal}
+use Rattle.nim_tails.specs.NormalTails.{IsInLeastIdeal}
 use Rattle.nim_tails.specs.Tails.{IsSquareRoot}
 use Rattle.nim_tails.proofs.Groups.{multiples_inside}
 use Rattle.nim_tails.proofs.kernel.first_other.Goals as goal

@@ -1,6 +1,6 @@
 use Rattle.std.proofs.Common.{sym, subst}
 use Rattle.misere_theory.specs.Certificates.{claim_of}
-use Rattle.normal_play.specs.Tails.{IsRegularKernel}
+use Rattle.nim_tails.specs.NormalTails.{IsRegularKernel}
 use Rattle.nim_tails.proofs.Groups.{regular}
 use Rattle.nim_tails.proofs.kernel.identity.Goals as goal
 

@@ -1,7 +1,7 @@
 use Rattle.std.proofs.Common.{◌≡◌, ◌∙◌, ap, refl, sym, subst}
 use Rattle.std.proofs.lemmas.Bool.{true≢false}
 use Rattle.misere_theory.specs.Certificates.{Certificate, kind_of}
-use Rattle.normal_play.specs.Tails.{IsLongEnough}
+use Rattle.nim_tails.specs.NormalTails.{IsLongEnough}
 use Rattle.nim_tails.proofs.Tested.{last_is, tail_is}
 use Rattle.nim_tails.proofs.whole.tail_of.Goals as goal
 

@@ -1,6 +1,6 @@
 use Rattle.std.proofs.Common.{◌∙◌, subst}
-use Rattle.infinite_player.specs.Told.{IsTelling}
-use Rattle.infinite_player.specs.declared.telling.Separation.{Separation}
+use Rattle.label_players.specs.WholeTold.{IsTelling}
+use Rattle.label_players.specs.declared.whole_telling.Separation.{Separation}
 use Rattle.position_commands.specs.Apart.SaysApartOfWhole.{Apart}
 use Rattle.position_commands.proofs.telling.whole_said.Goals as goal
 

@@ -1,6 +1,6 @@
 use Rattle.std.proofs.Common.{◌≡◌, ◌∙◌, sym, subst}
 use Rattle.std.specs.Prelude.{IfOk, IfErr}
-use Rattle.infinite_answers.specs.Refusals.{refused}
+use Rattle.answers.specs.InfiniteRefusals.{refused}
 use Rattle.presented_claims.specs.Presents.{Presents}
 use Rattle.presented_checker.specs.Refused.{Fits, IsOrder}
 use Rattle.presented_checker.proofs.Unrolled.{ranges-made, form-made, accepted-made, refused-made, told-again}

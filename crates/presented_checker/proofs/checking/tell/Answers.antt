@@ -1,5 +1,5 @@
 use Rattle.std.proofs.Common.{Bool, List, subst}
-use Rattle.told_labels.specs.Told.{AreTold}
+use Rattle.kept_positions.specs.Told.{AreTold}
 use Rattle.presented_tables.specs.Elements.{ListedElements}
 use Rattle.presented_tables.specs.Tested.{PresentedTables}
 use Rattle.presented_checker.proofs.checking.tell.Goals as goal

@@ -2,7 +2,7 @@ use Rattle.std.proofs.Common.{◌≡◌, ℕ, ◌<◌, false, length}
 use Rattle.std.specs.Prelude.{slice_index_or}
 use Rattle.presentations.specs.declared.TheConstants.{LETTERS}
 use Rattle.presentations.specs.Vectors.{only}
-use Rattle.kept_checker.specs.Numbers.{entry}
+use Rattle.kept_positions.specs.Numbers.{entry}
 use Rattle.presented_claims.specs.Claims.{IsElement, in_portion}
 use Rattle.presented_tables.specs.Elements.{element, Takes}
 use Rattle.presented_tables.proofs.standing.are_elements.Given as goal

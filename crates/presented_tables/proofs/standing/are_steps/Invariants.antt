@@ -1,7 +1,7 @@
 use Rattle.std.proofs.Common.{ℕ, ◌<◌, length}
 use Rattle.presentations.specs.declared.TheConstants.{LETTERS}
 use Rattle.presentations.specs.Vectors.{only}
-use Rattle.kept_checker.specs.Numbers.{entry}
+use Rattle.kept_positions.specs.Numbers.{entry}
 use Rattle.presented_tables.specs.Elements.{Takes}
 use Rattle.presented_tables.proofs.standing.are_steps.Given as goal
 

@@ -3,7 +3,7 @@ use Rattle.std.specs.List.{All}
 use native.Mathlib.Decide.{dec_lt}
 use Rattle.misere_theory.specs.Certificates.{Canonical}
 use Rattle.monoid_table.specs.Grids.{Grid}
-use Rattle.pretending.specs.Pretending.{Pretending}
+use Rattle.monoid_table.specs.Pretending.{Pretending}
 use Rattle.transition_algebra.specs.Heaps.{AreAllHeapPairs, all_heap_pairs}
 use Rattle.transition_algebra.specs.Pairs.{IsPair}
 use Rattle.transition_algebra.specs.Work.{HeapWork, IsDone, heap_cost}

@@ -1,5 +1,5 @@
 use Rattle.std.proofs.Common.{◌≡◌, ◌↔◌, true, subst}
-use Rattle.periods.specs.Evidence.{IsShown}
+use Rattle.quotient_search.specs.Evidence.{IsShown}
 use Rattle.guesses.specs.Guesses.{IsPeriodOrNone}
 use Rattle.guesses.proofs.guess.Guess.new.Goals as goal
 

@@ -1,5 +1,5 @@
 use denote.Param.Send.{IsSend}
-use Rattle.owners.proofs.Handles.{handle_sends}
+use Rattle.opened.proofs.Handles.{handle_sends}
 use Rattle.opened.proofs.Form.{R, form}
 use Rattle.opened.proofs.quotient.Quotient.TheSendSync.{the_send as kept}
 use Rattle.opened.specs.contracts.handle.Handle.{the_row}

@@ -1,4 +1,4 @@
-use Rattle.owners.proofs.Handles.{into_loose_meets}
+use Rattle.opened.proofs.Handles.{into_loose_meets}
 use Rattle.opened.proofs.Form.{R, form}
 use Rattle.opened.specs.contracts.handle.Handle.into_loose.Key.{name as #self}
 use Rattle.opened.proofs.handle.Handle.into_loose.Statement.{statement}

@@ -1,4 +1,4 @@
-use Rattle.owners.proofs.Handles.{none_meets}
+use Rattle.opened.proofs.Handles.{none_meets}
 use Rattle.opened.proofs.Form.{R, form}
 use Rattle.opened.specs.contracts.handle.Handle.none.Key.{name as #self}
 use Rattle.opened.proofs.handle.Handle.none.Statement.{statement}

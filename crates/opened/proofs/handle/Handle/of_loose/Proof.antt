@@ -1,4 +1,4 @@
-use Rattle.owners.proofs.Handles.{of_loose_meets}
+use Rattle.opened.proofs.Handles.{of_loose_meets}
 use Rattle.opened.proofs.Form.{R, form}
 use Rattle.opened.specs.contracts.handle.Handle.of_loose.Key.{name as #self}
 use Rattle.opened.proofs.handle.Handle.of_loose.Statement.{statement}

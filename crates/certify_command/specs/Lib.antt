@@ -1,2 +1,0 @@
-pub mod Presentations
-pub mod Certifies

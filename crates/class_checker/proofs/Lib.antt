@@ -1,3 +1,0 @@
-mod Accepted
-mod Infinite
-mod Powers

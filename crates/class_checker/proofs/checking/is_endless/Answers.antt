@@ -1,5 +1,0 @@
-use Rattle.std.proofs.Common.{arith}
-use Rattle.class_checker.proofs.checking.is_endless.Goals as goal
-
-pub returns-then-runs_on : goal.returns-then-runs_on
-returns-then-runs_on g c = λ _. (c.loop-i.i, grind arith, c.runs_on.ensures c.if-runs_on.true)

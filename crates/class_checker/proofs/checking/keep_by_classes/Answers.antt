@@ -1,4 +1,0 @@
-use Rattle.class_checker.proofs.checking.keep_by_classes.Goals as goal
-
-pub returns-clause-fault : goal.returns-clause-fault
-returns-clause-fault g c = c.given_up.ensures c.args.p.now

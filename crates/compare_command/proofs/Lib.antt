@@ -1,4 +1,0 @@
-mod Found
-mod Images
-mod Isomorphic
-mod Joins

@@ -1,7 +1,0 @@
-use Rattle.compare_command.proofs.Found.{compares_found}
-use Rattle.compare_command.proofs.comparing.compare_beside.Goals as goal
-
-pub returns-in-Ok-clause-compares : goal.returns-in-Ok-clause-compares
-returns-in-Ok-clause-compares g c =
-    compares_found c.args.a.now _ c.args.limit c.in_ok-found.found _ _
-    c.in_ok-found.ensures.found c.in-Ok.ensures

@@ -1,4 +1,0 @@
-pub mod Lines
-pub mod Alike
-pub mod Operands
-pub mod Compared

@@ -1,6 +1,0 @@
-use Rattle.describe_command.proofs.Found.{describes_found}
-use Rattle.describe_command.proofs.describing.describe.Goals as goal
-
-pub returns-in-Ok-clause-describes : goal.returns-in-Ok-clause-describes
-returns-in-Ok-clause-describes g c =
-    describes_found _ c.args.limit c.args.form c.args.output _ _ _ _ c.in_ok-found.ensures.found c.in-Ok.ensures

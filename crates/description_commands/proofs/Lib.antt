@@ -1,0 +1,7 @@
+mod Quotients
+mod Found
+mod FoundIsomorphism
+mod Images
+mod Isomorphic
+mod Joins
+mod Monoid

@@ -1,0 +1,6 @@
+use Rattle.std.proofs.Common.{◌≡◌, ◌<◌, ℕ, List}
+use Rattle.std.specs.Prelude.{slice_index_or}
+use Rattle.description_commands.proofs.alike.are_rules.Given as goal
+
+abbrev pub invariant-loop-k : goal.invariant-loop-k
+invariant-loop-k l = (j : ℕ) (d : List ℕ × List ℕ) → j < l.k → slice_index_or l.a j d ≡ slice_index_or l.b j d

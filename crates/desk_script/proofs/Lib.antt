@@ -1,3 +1,0 @@
-pub mod Cuts
-pub mod Lines
-pub mod ReadLines

@@ -1,3 +1,0 @@
-pub mod Scripts
-pub mod Steps
-pub mod Views

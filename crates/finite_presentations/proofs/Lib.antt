@@ -1,3 +1,0 @@
-pub mod Isomorphic
-pub mod Heaps
-pub mod Finite

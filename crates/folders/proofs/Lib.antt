@@ -1,2 +1,0 @@
-mod DiskLemmas
-mod FrontLemmas

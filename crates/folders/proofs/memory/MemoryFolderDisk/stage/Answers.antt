@@ -1,4 +1,0 @@
-use Rattle.folders.proofs.memory.MemoryFolderDisk.stage.Goals as goal
-
-pub returns-then-not-puts-clause-staged : goal.returns-then-not-puts-clause-staged
-returns-then-not-puts-clause-staged c = c.puts.ensures.kept c.if-not-puts.true

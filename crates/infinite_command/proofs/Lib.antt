@@ -1,3 +1,0 @@
-pub mod Given
-mod Found
-mod Answered

@@ -1,5 +1,0 @@
-pub mod Told
-pub mod Checks
-pub mod Plays
-pub mod Many
-pub mod Shown

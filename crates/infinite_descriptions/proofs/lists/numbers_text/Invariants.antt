@@ -1,7 +1,0 @@
-use Rattle.std.proofs.Common.{◌≡◌}
-use Rattle.std.specs.String.{string_bytes}
-use Rattle.infinite_descriptions.specs.Lists.{numbers_in}
-use Rattle.infinite_descriptions.proofs.lists.numbers_text.Given as goal
-
-abbrev pub invariant-loop-k : goal.invariant-loop-k
-invariant-loop-k l = string_bytes l.text ≡ numbers_in l.between l.numbers l.k

@@ -1,3 +1,0 @@
-pub mod Triples
-pub mod Values
-pub mod Told

@@ -1,8 +1,0 @@
-use Rattle.std.proofs.Common.{ℕ, List, ap, subst, sym}
-use Rattle.infinite_texts.specs.Valued.{IsWordOf}
-use Rattle.infinite_texts.proofs.valuing.word_in.Goals as goal
-
-pub returns : goal.returns
-returns c =
-    subst (λ (t : List ℕ). IsWordOf c.args.heaps.now c.args.quotient.now t)
-    (sym (ap (λ v. v.items) c.into_bytes.ensures.value)) c.in_ok-text.ensures

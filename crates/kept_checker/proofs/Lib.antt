@@ -1,4 +1,0 @@
-pub mod Below
-pub mod Positions
-pub mod Free
-pub mod Lifting

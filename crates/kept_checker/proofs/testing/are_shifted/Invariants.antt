@@ -1,6 +1,0 @@
-use Rattle.std.proofs.Common.{ℕ, ◌<◌}
-use Rattle.kept_checker.specs.Numbers.{IsShifted}
-use Rattle.kept_checker.proofs.testing.are_shifted.Given as goal
-
-abbrev pub invariant-loop-m : goal.invariant-loop-m
-invariant-loop-m g l = (m : ℕ) → m < l.m → IsShifted l.t l.k l.from l.start l.g m

@@ -1,0 +1,10 @@
+pub mod WholeLists
+pub mod WholeLines
+pub mod WholeLatex
+pub mod WholeJson
+pub mod Whole
+pub mod Lists
+pub mod Plain
+pub mod Latex
+pub mod Json
+pub mod Described

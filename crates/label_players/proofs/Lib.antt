@@ -1,0 +1,7 @@
+mod Apart
+mod Stopped
+mod Counts
+mod Splits
+mod Labels
+mod Enough
+mod Outcomes

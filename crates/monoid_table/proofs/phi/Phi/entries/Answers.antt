@@ -1,0 +1,5 @@
+use Rattle.std.proofs.Common.{rules}
+use Rattle.monoid_table.proofs.phi.Phi.entries.Goals as goal
+
+pub returns : goal.returns
+returns g c = search rules

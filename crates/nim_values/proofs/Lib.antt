@@ -1,3 +1,0 @@
-mod Walked
-mod Marks
-mod Sequences

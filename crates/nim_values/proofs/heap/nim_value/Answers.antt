@@ -1,8 +1,0 @@
-use Rattle.std.specs.Prelude.{slice_index}
-use Rattle.nim_values.proofs.Marks.{mex_of}
-use Rattle.nim_values.proofs.heap.nim_value.Goals as goal
-
-pub returns : goal.returns
-returns c =
-    mex_of c.args.code.now (slice_index c.args.values.now) c.args.heap c.marked-marks.result
-    c.marked-marks.ensures c.first_free.result c.first_free.ensures

@@ -1,6 +1,0 @@
-use Rattle.normal_play.proofs.Mex.{nim_values}
-use Rattle.normal_play.proofs.Outcomes.{nim_sums_tell}
-use Rattle.normal_play.proofs.normal.nim_sums_tell_normal_play.Goals as goal
-
-pub returns : goal.returns
-returns g = record { told = λ M code G X good p. nim_sums_tell M code G good X p; sequence = nim_values }

@@ -1,2 +1,0 @@
-pub mod Normal
-pub mod Tails

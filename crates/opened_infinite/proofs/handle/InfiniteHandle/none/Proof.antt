@@ -1,8 +1,0 @@
-use Rattle.owners.proofs.Handles.{none_meets}
-use Rattle.opened_infinite.proofs.Form.{R, form}
-use Rattle.opened_infinite.specs.contracts.handle.InfiniteHandle.none.Key.{name as #self}
-use Rattle.opened_infinite.proofs.handle.InfiniteHandle.none.Statement.{statement}
-use Rattle.opened_infinite.proofs.handle.InfiniteHandle.none.Code as code
-
-pub none_spec : {M : Type 1} → statement M
-none_spec 𝓤 𝓛 𝓜 𝓡 wired = none_meets R form 𝓤 𝓛 𝓜 𝓡 #self (code.unfolded 𝓤 𝓛.H 𝓜 𝓡 wired)

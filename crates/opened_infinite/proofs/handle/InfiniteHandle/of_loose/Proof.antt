@@ -1,8 +1,0 @@
-use Rattle.owners.proofs.Handles.{of_loose_meets}
-use Rattle.opened_infinite.proofs.Form.{R, form}
-use Rattle.opened_infinite.specs.contracts.handle.InfiniteHandle.of_loose.Key.{name as #self}
-use Rattle.opened_infinite.proofs.handle.InfiniteHandle.of_loose.Statement.{statement}
-use Rattle.opened_infinite.proofs.handle.InfiniteHandle.of_loose.Code as code
-
-pub of_loose_spec : {M : Type 1} → statement M
-of_loose_spec 𝓤 𝓛 𝓜 𝓡 wired = of_loose_meets R form 𝓤 𝓛 𝓜 𝓡 #self (code.unfolded 𝓤 𝓛.H 𝓜 𝓡 wired)

@@ -1,2 +1,0 @@
-pub mod ReachedLaws
-pub mod TextLaws

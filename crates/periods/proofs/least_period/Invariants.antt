@@ -1,6 +1,0 @@
-use Rattle.periods.proofs.Least.{NoneBelow}
-use Rattle.periods.proofs.least_period.Given as goal
-
--- no smaller period serves
-abbrev pub invariant-loop-period : goal.invariant-loop-period
-invariant-loop-period l = NoneBelow l.entries l.period

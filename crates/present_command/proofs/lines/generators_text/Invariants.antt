@@ -1,9 +1,0 @@
-use Rattle.std.proofs.Common.{◌≡◌, ◌++◌, codes, take}
-use Rattle.std.specs.String.{string_bytes}
-use Rattle.present_command.specs.Presented.{generator_words}
-use Rattle.present_command.proofs.lines.generators_text.Given as goal
-
-abbrev pub invariant-loop-generator : goal.invariant-loop-generator
-invariant-loop-generator l =
-    string_bytes l.text ≡ codes "generators"
-    ++ generator_words (take l.generator-index l.generators)

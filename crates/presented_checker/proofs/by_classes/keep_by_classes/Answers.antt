@@ -1,0 +1,4 @@
+use Rattle.presented_checker.proofs.by_classes.keep_by_classes.Goals as goal
+
+pub returns-clause-fault : goal.returns-clause-fault
+returns-clause-fault g c = c.given_up.ensures c.args.p.now

@@ -1,0 +1,12 @@
+pub mod Exponents
+pub mod Folds
+pub mod Cells
+pub mod Listed
+pub mod Steps
+pub mod Lowered
+pub mod Pairs
+pub mod Told
+pub mod Carried
+pub mod Isomorphic
+pub mod Heaps
+pub mod Finite

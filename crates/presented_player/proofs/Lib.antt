@@ -1,5 +1,0 @@
-mod Counts
-mod Splits
-mod Labels
-mod Enough
-mod Outcomes

@@ -1,4 +1,0 @@
-pub mod Wide
-pub mod Plays
-pub mod Forms
-pub mod Told

@@ -1,2 +1,0 @@
-pub mod Pretending
-pub mod Tables

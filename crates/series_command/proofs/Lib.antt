@@ -1,3 +1,0 @@
-mod First
-mod Moves
-mod Parts

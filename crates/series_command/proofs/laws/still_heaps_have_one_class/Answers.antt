@@ -1,5 +1,0 @@
-use Rattle.series_command.proofs.Moves.{one_class}
-use Rattle.series_command.proofs.laws.still_heaps_have_one_class.Goals as goal
-
-pub returns : goal.returns
-returns c = one_class

@@ -1,2 +1,0 @@
-mod Joins
-mod Quotients

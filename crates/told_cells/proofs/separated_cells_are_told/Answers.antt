@@ -1,6 +1,0 @@
-use Rattle.told_cells.proofs.Told.{told}
-use Rattle.told_cells.proofs.separated_cells_are_told.Goals as goal
-
-pub returns : goal.returns
-returns g n letters relations are F word portion tops folds few above periods weights separated =
-    told n letters relations are F word portion tops folds few above periods weights separated

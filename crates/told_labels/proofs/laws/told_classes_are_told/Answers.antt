@@ -1,6 +1,0 @@
-use Rattle.std.proofs.Common.{◌≡◌, true}
-use Rattle.told_labels.proofs.Told.{told_labels}
-use Rattle.told_labels.proofs.laws.told_classes_are_told.Goals as goal
-
-pub returns : goal.returns
-returns g _ labels c b t marks d alone told = told_labels (λ x. labels x ≡ true) c b t marks d alone told

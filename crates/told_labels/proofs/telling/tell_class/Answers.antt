@@ -1,7 +1,0 @@
-use Rattle.kept_checker.proofs.Below.{below}
-use Rattle.told_labels.specs.Told.{IsTold}
-use Rattle.told_labels.proofs.telling.tell_class.Goals as goal
-
-pub loop-y-preserved : goal.loop-y-preserved
-loop-y-preserved g c =
-    below (λ z. IsTold c.args.t.now c.args.marks.now c.args.x z) c.loop-y.y c.loop-y.invariant c.in_ok-tell_pair.ensures

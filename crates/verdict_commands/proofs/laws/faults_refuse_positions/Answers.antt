@@ -1,0 +1,5 @@
+use Rattle.verdict_commands.proofs.Words.{refused}
+use Rattle.verdict_commands.proofs.laws.faults_refuse_positions.Goals as goal
+
+pub returns : goal.returns
+returns c = refused

@@ -1,0 +1,12 @@
+pub mod Verifies
+pub mod PresentedTold
+pub mod Told
+pub mod Checks
+pub mod Plays
+pub mod Many
+pub mod Shown
+pub mod Lines
+pub mod Explained
+pub mod WordExplained
+pub mod Codes
+pub mod Sizes

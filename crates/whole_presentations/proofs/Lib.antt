@@ -1,5 +1,0 @@
-pub mod Shifts
-pub mod Twins
-pub mod Lists
-pub mod Whole
-pub mod Forms

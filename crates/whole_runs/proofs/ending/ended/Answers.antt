@@ -1,5 +1,0 @@
-use Rattle.std.proofs.Common.{rules}
-use Rattle.whole_runs.proofs.ending.ended.Goals as goal
-
-pub returns : goal.returns
-returns g c = search rules

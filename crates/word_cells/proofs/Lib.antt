@@ -1,4 +1,0 @@
-pub mod Exponents
-pub mod Folds
-pub mod Cells
-pub mod Listed

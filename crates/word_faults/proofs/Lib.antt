@@ -1,2 +1,0 @@
-mod Spelling
-mod Words

@@ -1,3 +1,0 @@
-pub mod Powers
-pub mod Words
-pub mod Loop
