@@ -7,8 +7,8 @@ use crate::{
     third_format_lines_tests, transition_algebra_tests,
 };
 use allocation::SmallAllocator;
-use positions::Left;
 use devices::Ration;
+use positions::Left;
 use std::alloc::Global;
 
 /// What may take memory.

@@ -9,11 +9,11 @@ use crate::files::{put, read, read_front};
 use crate::lines::{added_line, last_line, line};
 use allocation::Memory;
 use catalogue::{AddFault, Catalogue, LoadFault};
-use given_quotients::fronts_decide;
 use checker::{Certified, check};
 use command_results::{Said, Stop};
-use streams::Folder;
+use given_quotients::fronts_decide;
 use std::alloc::Global;
+use streams::Folder;
 use verdict_texts::verdict_text;
 
 /// The catalogue of the file, or an empty one.

@@ -8,9 +8,9 @@ use crate::lines::{last_line, line};
 use allocation::Memory;
 use catalogue::{Catalogue, certificate_text};
 use command_results::{Said, Stop};
-use streams::Folder;
 use octal_code::Code;
 use std::alloc::Global;
+use streams::Folder;
 
 /// What is printed of a catalogue for a code and a kind.
 fn found(alloc: Global, catalogue: &Catalogue, code: &Code, heaps: u64) -> Result<Said, Memory>

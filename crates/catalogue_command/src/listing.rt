@@ -8,8 +8,8 @@ use crate::lines::{entry_lines, last_line};
 use allocation::Memory;
 use catalogue::Catalogue;
 use command_results::{Said, Stop};
-use streams::Folder;
 use std::alloc::Global;
+use streams::Folder;
 
 /// What is printed of the bytes.
 fn listing_of(alloc: Global, bytes: &[u8], limit: u32) -> Result<Said, Memory>

@@ -8,8 +8,8 @@ use crate::files::read;
 use crate::lines::{last_line, migrated_line};
 use catalogue::Catalogue;
 use command_results::{Said, Stop};
-use streams::Folder;
 use std::alloc::Global;
+use streams::Folder;
 
 /// Puts the entries of the file, whichever version it has, in its place as a file of the newest
 /// version, and gives how many they are; or says why it isn't loaded, and leaves it. Where it

@@ -8,8 +8,8 @@ use crate::files::read;
 use crate::lines::{last_line, salvage_lines};
 use catalogue::Catalogue;
 use command_results::{Said, Stop};
-use streams::Folder;
 use std::alloc::Global;
+use streams::Folder;
 
 /// Puts the entries of the file that stand in its place, and gives the fault of each other entry
 /// and how many are kept; or says why the bytes are no catalogue file, and leaves it. Where it

@@ -11,8 +11,8 @@ use allocation::Memory;
 use catalogue::Catalogue;
 use checker::Certified;
 use command_results::{Said, Stop};
-use streams::Folder;
 use std::alloc::Global;
+use streams::Folder;
 
 /// The table of the entries, as lines of fields or as an array of JSON.
 fn table_text(alloc: Global, entries: &[Certified], json: bool) -> Result<String, Memory>

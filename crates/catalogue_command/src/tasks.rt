@@ -11,9 +11,9 @@ use crate::migrating::migrate;
 use crate::salvaging::salvage;
 use crate::tabling::table;
 use command_results::{Said, Stop};
-use streams::Folder;
 use requests::CatalogueTask;
 use std::alloc::Global;
+use streams::Folder;
 
 /// Does what is asked of the catalogue file; the limit is that of each check. No other file
 /// changes, and where it stops or doesn't end well no file does. Where a code can't be read the

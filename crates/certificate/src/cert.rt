@@ -8,8 +8,8 @@ ghost use Rattle.certificate.specs.Fields.{IsWhole, certificate_of, pretending_o
 
 use crate::fields::Fields;
 use certificate_lines::Key;
-use octal_code::Code;
 use monoid_table::Phi;
+use octal_code::Code;
 use std::alloc::{Allocator, Global};
 use std::marker::Model;
 

@@ -1,7 +1,7 @@
 //! The lines of a certificate, apart.
 use certificate_lines::Key;
-use octal_code::Code;
 use monoid_table::Phi;
+use octal_code::Code;
 use std::alloc::{Allocator, Global};
 use std::marker::Model;
 

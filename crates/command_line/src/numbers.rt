@@ -4,8 +4,11 @@ ghost use Rattle.std.specs.Prelude.{option_map};
 ghost use Rattle.command_line.specs.Numbers.{IsWithin, bounds_of, name_of, number_in};
 ghost use Rattle.command_line.specs.Numbers.{number_within};
 
-use requests::{DEFAULT_HEAPS, DEFAULT_LIMIT, DEFAULT_ORDER, DEFAULT_ROUNDS, DEFAULT_SERIES, FEWEST_HEAPS, LARGEST_LIMIT, LEAST_ORDER, MOST_HEAPS, MOST_ROUNDS, number_between};
 use misere_theory::{LARGEST_FIRST_ORDER, LARGEST_ORDER, LARGEST_PART, LARGEST_SECOND_ORDER};
+use requests::{
+    DEFAULT_HEAPS, DEFAULT_LIMIT, DEFAULT_ORDER, DEFAULT_ROUNDS, DEFAULT_SERIES, FEWEST_HEAPS,
+    LARGEST_LIMIT, LEAST_ORDER, MOST_HEAPS, MOST_ROUNDS, number_between,
+};
 
 /// A number that an option takes.
 #[derive(Clone, Copy, Debug, PartialEq, Eq)]

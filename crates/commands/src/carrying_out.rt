@@ -8,16 +8,18 @@ ghost use Rattle.description_commands.specs.Described.{form_of};
 ghost use Rattle.requests.specs.Requests.{request_of};
 
 use catalogue_command::act;
-use solve_command::{certify, series, solve, solve_infinite, solve_lines, solve_many};
-use given_quotients::check;
 use command_results::{Noted, Said, Stop};
 use description_commands::{compare, describe, present, show};
 use descriptions::Form;
-use verdict_commands::{explain, infinite, play_infinite, play_infinite_lines, show_infinite, tail, verify};
-use streams::{Folder, Source};
+use given_quotients::check;
 use position_commands::{all_wins, apart, play, play_lines, value};
 use requests::Plan;
+use solve_command::{certify, series, solve, solve_infinite, solve_lines, solve_many};
 use std::alloc::Global;
+use streams::{Folder, Source};
+use verdict_commands::{
+    explain, infinite, play_infinite, play_infinite_lines, show_infinite, tail, verify,
+};
 
 /// The form of relations that is asked for.
 fn form_of(basis: bool) -> Form

@@ -5,10 +5,10 @@ ghost use Rattle.commands.specs.Obeys.{scene};
 ghost use Rattle.commands.specs.Ends.{Ends};
 
 use crate::whole_run::run;
-use streams::{Folder, Sink, Source};
 use std::alloc::Global;
 use std::convert::AsStr;
 use std::process::ExitCode;
+use streams::{Folder, Sink, Source};
 
 /// Does a whole run, and ends with its status.
 pub fn ended<F: Folder, S: Source, W: Sink, E: Sink, T: AsStr>(

@@ -6,9 +6,9 @@ ghost use Rattle.requests.specs.Requests.{request_of};
 
 use crate::carrying_out::carry_out;
 use desk_command::run_file;
-use streams::{Folder, Sink, Source};
 use requests::Plan;
 use std::alloc::Global;
+use streams::{Folder, Sink, Source};
 
 /// Does what is planned, prints what is said of it or tells why it stopped, and answers the status:
 /// 0 where it ends well, 1 for a no or a refusal, 2 for a text that can't be read or a script with

@@ -8,12 +8,12 @@ ghost use Rattle.commands.specs.Obeys.{scene};
 ghost use Rattle.command_results.specs.Stops.{stop_line};
 ghost use Rattle.commands.specs.Ends.{Ends, ExplainsWord};
 
+use crate::run_plan;
 use command_line::{Asked, ExplainedWord, UsageFault, asked};
 use command_results::{Said, Stop, print, tell};
-use crate::run_plan;
-use streams::{Folder, Sink, Source};
 use std::alloc::{AllocError, Global};
 use std::convert::AsStr;
+use streams::{Folder, Sink, Source};
 use verdict_commands::{explain_code, explain_position};
 
 /// Answers words that are no request, nor ask for help.

@@ -13,11 +13,11 @@ use crate::texts::{
 use allocation::Memory;
 use answers::Certified;
 use command_results::{Said, Stop};
-use streams::{Folder, Source};
 use given_quotients::{Quotient, quotient_of};
 use isomorphisms::{Comparison, compared};
 use presented_checker::PresentedQuotient;
 use std::alloc::{AllocError, Global};
+use streams::{Folder, Source};
 
 /// The most lists of images that a comparison tries.
 pub const MOST_LISTS: u64 = 100_000;

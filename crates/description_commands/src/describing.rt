@@ -14,12 +14,12 @@ use allocation::Memory;
 use answers::Certified;
 use command_results::{Noted, Said, Stop};
 use descriptions::{Bound, Form, Notation, PresentBound, RelationsWord, System, Undescribed};
-use streams::{Folder, Source};
 use given_quotients::{Quotient, quotient_of};
 use label_descriptions::{Output as WholeOutput, presented_text, whole_text};
 use presented_checker::PresentedQuotient;
 use requests::Output;
 use std::alloc::Global;
+use streams::{Folder, Source};
 use whole_checker::WholeGame;
 
 /// What is said, with nothing told beside it.

@@ -8,10 +8,10 @@ use allocation::Memory;
 use answers::Certified;
 use certificate::Cert;
 use command_results::{Said, Stop};
-use streams::{Folder, Source};
 use given_quotients::{Quotient, quotient_of};
 use label_descriptions::{Output, presented_text, whole_text};
 use std::alloc::{AllocError, Global};
+use streams::{Folder, Source};
 
 fn letter(certified: &Certified, element: u16) -> &'static str
     requires { element < certified.now.order }

@@ -7,8 +7,8 @@ use crate::fault::LineFault;
 use crate::line::cut;
 use crate::step::{LARGEST_JOB, Step};
 use allocation::SmallAllocator;
-use requests::number_between;
 use positions::{Position, PositionFault};
+use requests::number_between;
 
 /// The job of this number.
 fn job_of(text: &str) -> Option<u8>

@@ -5,8 +5,8 @@ ghost use Rattle.desk_command.specs.Lines.{IsLineOf, opened_line, outcome_line};
 
 use allocation::Memory;
 use desk::{Reply, StepFault};
-use position_commands::answer_text;
 use player::Outcome;
+use position_commands::answer_text;
 use std::alloc::Global;
 use verdict_texts::verdict_line;
 

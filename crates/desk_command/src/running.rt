@@ -10,8 +10,8 @@ ghost use Rattle.desk_command.specs.Stops.{Breaks, IsStop};
 use crate::stepping::take_step;
 use crate::stop::DeskStop;
 use desk::{Desk, Step, read_script};
-use streams::{Folder, Sink, write_whole};
 use std::alloc::Global;
+use streams::{Folder, Sink, write_whole};
 
 /// Takes the steps at a new desk, one after another, and prints the line of each.
 fn run_steps<'a, F: Folder, W: Sink>(

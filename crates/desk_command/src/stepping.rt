@@ -11,8 +11,8 @@ ghost use Rattle.desk_command.specs.Stops.{IsStepCause};
 use crate::lines::reply_line;
 use crate::stop::{DeskStop, read_front};
 use desk::{Client, Desk, Event, Step};
-use streams::Folder;
 use std::alloc::Global;
+use streams::Folder;
 
 /// Whose step it is, and what is asked: a file is read now.
 fn asked_by<'a, F: Folder>(folder: &mut F, step: Step<'a>) -> Result<(Client, Event), DeskStop<'a>>

@@ -9,8 +9,8 @@ ghost use Rattle.desk_command.specs.declared.stop.DeskStop.TheVariants.{«Memory
 use allocation::Memory;
 use command_results::{Stop, tell};
 use desk::ScriptFault;
-use streams::{DeviceFault, FileFault, Folder, Sink};
 use itoa::Buffer;
+use streams::{DeviceFault, FileFault, Folder, Sink};
 use verdict_texts::MOST_BYTES;
 
 /// Why a script ends before its end.

@@ -5,8 +5,8 @@ ghost use Rattle.desk_command.specs.Ends.{EndsScript};
 
 use crate::running::run_script;
 use command_results::read_file;
-use streams::{Folder, Sink};
 use std::alloc::Global;
+use streams::{Folder, Sink};
 
 /// The most bytes of a script: 4 MiB.
 pub const LARGEST_SCRIPT: usize = 4194304;

@@ -7,8 +7,8 @@ ghost use Rattle.dominance_text.specs.Spelling.{SpellsDominance};
 ghost use Rattle.dominance_text.specs.Reading.{front_at, labels_at, said_at};
 
 use crate::text::DominanceText;
-use certificate_lines::{Reader, TextFault, Wanted, code_line, field, line};
 use crate::{LARGEST_WEIGHT, MOST_LABELS};
+use certificate_lines::{Reader, TextFault, Wanted, code_line, field, line};
 use octal_code::Code;
 use std::alloc::Allocator;
 

@@ -4,8 +4,8 @@ ghost use Rattle.verdict_texts.specs.Streams.{AreKnownAs};
 ghost use Rattle.given_quotients.specs.Checks.{AreGiven, IsFrontOf, IsGivenCause, IsInputCause, failed};
 
 use command_results::{Stop, read_front};
-use streams::{Folder, Source, StreamFault, read_whole};
 use std::alloc::Global;
+use streams::{Folder, Source, StreamFault, read_whole};
 use verdict_texts::MOST_BYTES;
 
 /// What is left of standard input, or one byte more than is read of a certificate.

@@ -6,8 +6,8 @@ use crate::bytes::given_bytes;
 use allocation::Memory;
 use checker::{Certified, check, verdicts_are_true};
 use command_results::Stop;
-use streams::{Folder, Source};
 use std::alloc::Global;
+use streams::{Folder, Source};
 use verdict_texts::verdict_text;
 
 /// Checks the bytes under the limit: their quotient, or else the text of a no.

@@ -6,8 +6,8 @@ ghost use Rattle.given_quotients.specs.Checks.{AreGiven, Checks, IsGivenCause, f
 use crate::bytes::given_bytes;
 use checker::{Checker, verdicts_are_true};
 use command_results::{Said, Stop};
-use streams::{Folder, Source};
 use std::alloc::Global;
+use streams::{Folder, Source};
 use verdict_texts::{VerdictText, checked_bytes};
 
 /// What is said of a verdict.

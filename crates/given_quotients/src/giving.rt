@@ -5,14 +5,14 @@ ghost use Rattle.given_quotients.specs.Given.{FindsQuotient, JudgesQuotient};
 
 use crate::presented::{begins_presented, judged_presented};
 use crate::whole::{begins_whole, judged_whole};
+use crate::{fronts_decide, given_bytes};
 use allocation::Memory;
 use answers::Certified;
-use crate::{fronts_decide, given_bytes};
 use checker::{check, verdicts_are_true};
 use command_results::Stop;
-use streams::{Folder, Source};
 use presented_checker::PresentedQuotient;
 use std::alloc::Global;
+use streams::{Folder, Source};
 use verdict_texts::verdict_text;
 use whole_checker::WholeGame;
 

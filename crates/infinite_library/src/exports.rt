@@ -11,10 +11,13 @@ ghost use Rattle.player.specs.Asked.{IsOpened, IsUnopened, IsUnshared};
 ghost use Rattle.player.specs.Many.{TellAll};
 
 use crate::solving::{solve, solve_presented};
-use infinite_queries::{answer, answers, check, close, code, describe, failure, kind, open, order, outcome, outcomes, share, value};
+use infinite_queries::{
+    answer, answers, check, close, code, describe, failure, kind, open, order, outcome, outcomes,
+    share, value,
+};
 use opened::OpenedInfinite;
-use std::alloc::Global;
 use player::MisereAnswer;
+use std::alloc::Global;
 
 /// Whether the bytes are an accepted text of a whole game, whose quotient is infinite, or an accepted presentation, whose
 /// quotient may be finite: 0, or the number of the refusal.

@@ -6,9 +6,9 @@ ghost use Rattle.solve_command.specs.Asked.{IsFound};
 use command_results::{Said, Stop};
 use infinite_queries::hand_over;
 use misere_theory::LARGEST_PART;
+use player::{DONE, MEMORY, NOT_IN_RANGE};
 use solve_command::{present_infinite_bytes, solve_infinite_bytes};
 use std::alloc::Global;
-use player::{DONE, MEMORY, NOT_IN_RANGE};
 
 /// The text is no code's.
 const NOT_A_CODE: u32 = 12;

@@ -8,11 +8,11 @@ ghost use Rattle.player.specs.Many.{AreEnds};
 use crate::kinds::{rising_answer, speaks, winner};
 use allocation::Memory;
 use opened::AcceptedText;
-use positions::Position;
-use std::alloc::Global;
 use player::{
     BEYOND, MisereAnswer, NOT_A_HEAP, NOT_ENDS, are_ends, are_sizes, number, position_of, told,
 };
+use positions::Position;
+use std::alloc::Global;
 
 /// Whether the text speaks of the heaps; else why not.
 pub(crate) fn fit(shown: &AcceptedText, heaps: &[u64]) -> Result<(), u32>

@@ -6,10 +6,10 @@ ghost use Rattle.infinite_queries.specs.Asked.{AreRefused, AreShown, BeginsPrese
 
 use answers::InfiniteRefusal;
 use opened::AcceptedText;
+use player::{DONE, OUTCOME, put};
 use positions::Position;
 use presented_checker::check_presented;
 use std::alloc::Global;
-use player::{DONE, OUTCOME, put};
 use whole_checker::judge_whole;
 
 /// The number of a refusal.

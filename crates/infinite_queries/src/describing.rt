@@ -10,9 +10,9 @@ ghost use Rattle.player.specs.Asked.{IsUnshared};
 use allocation::Memory;
 use label_descriptions::{Output, presented_text};
 use opened::{AcceptedText, OpenedInfinite};
+use player::{DONE, MEMORY, NO_ROOM, NOT_IN_RANGE, NOT_OPEN};
 use presented_checker::PresentedQuotient;
 use std::alloc::Global;
-use player::{DONE, MEMORY, NO_ROOM, NOT_IN_RANGE, NOT_OPEN};
 
 /// There is no such text of what is opened: a whole game has no description, and only a presentation has words.
 pub(crate) const NOT_DESCRIBED: u32 = 16;

@@ -6,7 +6,9 @@ ghost use Rattle.positions.specs.Outcomes.{HasOutcome};
 ghost use Rattle.positions.specs.Positions.{IsSize};
 ghost use Rattle.infinite_queries.specs.Asked.{IsAnswerIn, SpeaksOf};
 
-use label_players::{presented_answer_at, presented_outcome_at, speaks_of, whole_answer_at, whole_outcome_at};
+use label_players::{
+    presented_answer_at, presented_outcome_at, speaks_of, whole_answer_at, whole_outcome_at,
+};
 use opened::AcceptedText;
 use player::Answer;
 use positions::Outcome;

@@ -7,8 +7,8 @@ ghost use Rattle.player.specs.Many.{AreEnds, TellAll};
 use crate::asking::{all_fit, answer_of, outcome_of};
 use allocation::Memory;
 use opened::AcceptedText;
-use std::alloc::Global;
 use player::{DONE, MEMORY, MisereAnswer, heaps_at};
+use std::alloc::Global;
 
 /// Tells the outcome of each position.
 fn fill_outcomes(shown: &AcceptedText, heaps: &[u64], ends: &[u64], told: &mut [u32])

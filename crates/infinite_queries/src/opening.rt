@@ -7,8 +7,8 @@ ghost use Rattle.player.specs.Asked.{IsOpened, IsUnopened, IsUnshared};
 use crate::bytes::shown;
 use allocation::Memory;
 use opened::{AcceptedText, InfiniteQuotient, OpenedInfinite};
-use std::alloc::Global;
 use player::{DONE, MEMORY, NOT_OPEN};
+use std::alloc::Global;
 
 /// The first owner of the text, in a box.
 fn boxed(alloc: Global, shown: AcceptedText) -> Result<Box<InfiniteQuotient>, Memory>

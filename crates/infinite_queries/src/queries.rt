@@ -10,8 +10,8 @@ use crate::asking::{answer_in, outcome_in};
 use crate::kinds::{kind_of, order_of};
 use crate::many::{answers_in, outcomes_in};
 use opened::OpenedInfinite;
-use std::alloc::Global;
 use player::{DONE, MisereAnswer, NOT_OPEN};
+use std::alloc::Global;
 
 /// Tells of which heaps it speaks: 0 where of those of every size, and else the last one. Some before that
 /// may be left out.

@@ -7,12 +7,12 @@ ghost use Rattle.presented_tables.specs.Tested.{HasWord};
 
 use crate::describing::{NOT_DESCRIBED, hand_over};
 use allocation::Memory;
+use label_players::{form_text, presented_form, speaks_of};
 use opened::{AcceptedText, OpenedInfinite};
+use player::{BEYOND, MEMORY, NOT_A_HEAP, NOT_OPEN, are_sizes, position_of};
 use positions::Position;
 use presented_checker::PresentedQuotient;
-use label_players::{form_text, presented_form, speaks_of};
 use std::alloc::{AllocError, Global};
-use player::{BEYOND, MEMORY, NOT_A_HEAP, NOT_OPEN, are_sizes, position_of};
 
 /// Whether the presentation speaks of the heaps; else why not.
 fn fit(quotient: &PresentedQuotient, heaps: &[u64]) -> Result<(), u32>

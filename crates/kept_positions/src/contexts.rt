@@ -1,8 +1,8 @@
 //! A search for few labels that tell all classes apart, of which nothing is promised. First come those beside which
 //! about half of the classes are in the portion.
+use crate::LabelTables;
 use crate::marks::mark;
 use allocation::Memory;
-use crate::LabelTables;
 use std::alloc::Allocator;
 
 /// Whether the mark is seen to be true.

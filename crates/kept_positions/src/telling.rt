@@ -2,10 +2,10 @@
 ghost use Rattle.std.specs.Prelude.{◌≡◌, ◌<◌, ℕ, IsTrue, MatchResult};
 ghost use Rattle.kept_positions.specs.Told.{IsTold, AreTold, IsTrueOf};
 
+use crate::LabelTables;
 use crate::contexts::contexts_of;
 use crate::marks::tells;
 use allocation::Memory;
-use crate::LabelTables;
 use std::alloc::Allocator;
 
 /// Why classes aren't seen to be told apart.

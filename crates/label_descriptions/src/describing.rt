@@ -4,11 +4,11 @@ ghost use Rattle.std.specs.String.{string_bytes};
 ghost use Rattle.presentations.specs.declared.TheConstants.{LETTERS};
 ghost use Rattle.label_descriptions.specs.Described.{presented_text_for, text_of};
 
+use crate::Output;
 use crate::json::json_text;
 use crate::latex::latex_text;
 use crate::plain::plain_text;
 use allocation::Memory;
-use crate::Output;
 use presented_checker::PresentedQuotient;
 use presented_tables::Presented;
 use std::alloc::{Allocator, Global};

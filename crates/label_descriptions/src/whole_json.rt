@@ -3,8 +3,8 @@ ghost use Rattle.std.specs.Prelude.{◌≡◌, IfOk};
 ghost use Rattle.std.specs.String.{string_bytes};
 ghost use Rattle.label_descriptions.specs.WholeJson.{presentation_json, ranks_json, ranks_pieces, repeat_json, whole_head_json, whole_head_pieces, whole_json};
 
-use crate::whole_lists::{all_three, numbers_text};
 use crate::whole::relation_of;
+use crate::whole_lists::{all_three, numbers_text};
 use allocation::Memory;
 use dominance_text::DominanceText;
 use octal_code::Code;

@@ -3,11 +3,11 @@ ghost use Rattle.std.specs.Prelude.{◌≡◌, ◌↔◌, IfOk, IfSome, IsTrue};
 ghost use Rattle.label_players.specs.Plays.{SpeaksOf};
 ghost use Rattle.label_players.specs.Told.{AreApartBy, IsTelling};
 
+use crate::Separation;
 use crate::guessing::{position_of, telling_word};
 use crate::play::{presented_fits, presented_form, presented_outcome};
 use crate::wide::WideWord;
 use allocation::{Memory, SmallAllocator};
-use crate::Separation;
 use positions::{Outcome, Position};
 use presentations::LETTERS;
 use presented_checker::PresentedQuotient;

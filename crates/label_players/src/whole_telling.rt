@@ -2,9 +2,9 @@
 ghost use Rattle.std.specs.Prelude.{IfOk, IfSome};
 ghost use Rattle.label_players.specs.WholeTold.{AreApartBy, IsTelling};
 
-use crate::whole_guessing::{Guess, Tools, guesses, position_of, tools_of};
 use crate::value::whole_value;
 use crate::whole::whole_outcome;
+use crate::whole_guessing::{Guess, Tools, guesses, position_of, tools_of};
 use allocation::{Memory, SmallAllocator};
 use positions::{Outcome, Position};
 use std::alloc::{Allocator, Global};

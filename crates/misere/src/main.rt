@@ -3,10 +3,10 @@
 #![tactic(auto)]
 
 use command_results::{stopped, words_of};
-use streams::{HostFolder, ReaderSource, WriterSink};
+use commands::ended;
 use std::process::ExitCode;
 use std::{env, io};
-use commands::ended;
+use streams::{HostFolder, ReaderSource, WriterSink};
 
 fn main(rt: HostRuntime) -> ExitCode {
     let mut err = WriterSink::new(rt.stderr());

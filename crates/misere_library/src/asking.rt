@@ -11,7 +11,10 @@ ghost use Rattle.misere_library.specs.Asked.{AreUnanswered, IsUnanswered};
 use crate::heaps::speaks_of;
 use allocation::Memory;
 use answers::Certified;
-use player::{BEYOND, DONE, MisereAnswer, NOT_A_HEAP, NOT_ENDS, answer, answer_at, are_ends, are_sizes, number, position_of, told};
+use player::{
+    BEYOND, DONE, MisereAnswer, NOT_A_HEAP, NOT_ENDS, answer, answer_at, are_ends, are_sizes,
+    number, position_of, told,
+};
 use positions::{Outcome, Position};
 use std::alloc::Global;
 

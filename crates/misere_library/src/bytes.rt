@@ -15,8 +15,8 @@ use crate::asking::{Question, fit, number_at};
 use crate::many::fill;
 use answers::{Certified, Refusal};
 use checker::check;
-use std::alloc::Global;
 use player::{DONE, NOT_A_HEAP, NOT_ENDS, are_ends, are_sizes};
+use std::alloc::Global;
 
 /// The number of a refusal.
 pub(crate) fn status(refusal: &Refusal) -> u32

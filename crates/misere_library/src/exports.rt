@@ -7,8 +7,8 @@ use crate::asking::{Question, answer_of};
 use crate::bytes::{certified, certified_of, certified_of_all, status, tell, tell_all};
 use crate::many::fill_answers;
 use checker::{Refusal, check};
-use std::alloc::Global;
 use player::{DONE, MEMORY, MisereAnswer, OUTCOME, put};
+use std::alloc::Global;
 
 /// The version of these calls.
 #[unsafe(no_mangle)]

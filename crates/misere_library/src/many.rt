@@ -10,8 +10,8 @@ ghost use Rattle.player.specs.Many.{AreEnds, TellAll};
 use crate::asking::{Question, all_fit, answer_of, number_at};
 use allocation::Memory;
 use answers::Certified;
-use std::alloc::Global;
 use player::{DONE, MEMORY, MisereAnswer, heaps_at};
+use std::alloc::Global;
 
 /// Tells what is asked of each position.
 pub(crate) fn fill(

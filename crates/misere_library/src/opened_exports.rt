@@ -11,8 +11,8 @@ use crate::asking::{Question, answer_in};
 use crate::many::answer_all_in;
 use crate::opening::{another, owner, tell_all_opened, tell_opened};
 use opened::Opened;
-use std::alloc::Global;
 use player::{DONE, MEMORY, MisereAnswer, NOT_OPEN};
+use std::alloc::Global;
 
 /// Opens the quotient that the bytes certify, in place of what was opened there: 0, or the number of
 /// the refusal. The bytes aren't needed any more.

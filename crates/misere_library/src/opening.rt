@@ -12,8 +12,8 @@ use crate::many::tell_all_in;
 use allocation::Memory;
 use answers::{Certified, true_answers};
 use opened::{Opened, Quotient};
-use std::alloc::Global;
 use player::{MEMORY, NOT_OPEN};
+use std::alloc::Global;
 
 /// The first owner of the certificate, in a box.
 fn boxed(alloc: Global, certified: Certified) -> Result<Box<Quotient>, Memory>

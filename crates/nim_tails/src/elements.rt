@@ -8,9 +8,9 @@ ghost use Rattle.nim_tails.specs.NormalTails.{AreNimSums, IsRegularKernel};
 ghost use Rattle.nim_tails.specs.Tails.{AreElementSums, IsNormal, IsTailFault, AgreesWith, IsOnlyZero};
 
 use crate::fault::TailFault;
+use crate::{nim_sum, nim_values};
 use allocation::Memory;
 use answers::Certified;
-use crate::{nim_sum, nim_values};
 use std::alloc::Global;
 
 /// For each element the nim sum of the position that its keys spell.

@@ -3,8 +3,8 @@ ghost use Rattle.std.specs.Prelude.{◌≡◌};
 ghost use Rattle.nim_tails.specs.declared.fault.TailFault.TheVariants.{Memory as OutOfMemory};
 ghost use Rattle.nim_tails.specs.Tails.{tail_fault_from, tail_fault_number, tail_fault_name, tail_fault_place};
 
-use allocation::Memory;
 use crate::NimFault;
+use allocation::Memory;
 use std::alloc::AllocFailed;
 
 /// Why a certificate doesn't show that its game is normal play beyond some heap. Each but the last is

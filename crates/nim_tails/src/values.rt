@@ -4,8 +4,8 @@ ghost use Rattle.nim_tails.specs.Normal.{AreNimValues};
 ghost use Rattle.nim_tails.specs.declared.TheConstants.{NIM_BOUND};
 ghost use Rattle.nim_tails.specs.Values.{IsNimFault};
 
-use crate::values_fault::NimFault;
 use crate::heap::nim_value;
+use crate::values_fault::NimFault;
 use octal_code::Code;
 use std::alloc::Global;
 

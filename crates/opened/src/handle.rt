@@ -7,8 +7,8 @@ ghost use Rattle.misere_theory.specs.Certificates.{Certificate};
 ghost use Rattle.opened.specs.Handing.{handle_owns};
 ghost use Rattle.opened.specs.contracts.quotient.Quotient.{the_row as quotient_row};
 
-use crate::quotient::Quotient;
 use crate::Loose;
+use crate::quotient::Quotient;
 use std::alloc::Global;
 use std::marker::Model;
 use std::ptr::null_mut;

@@ -7,8 +7,8 @@ ghost use Rattle.opened.specs.Handing.{handle_owns};
 ghost use Rattle.opened.specs.contracts.infinite.InfiniteQuotient.{the_row as quotient_row};
 ghost use Rattle.opened.specs.declared.text.AcceptedText.{AcceptedText};
 
-use crate::infinite::InfiniteQuotient;
 use crate::Loose;
+use crate::infinite::InfiniteQuotient;
 use std::alloc::Global;
 use std::marker::Model;
 use std::ptr::null_mut;

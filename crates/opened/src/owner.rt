@@ -4,8 +4,8 @@ ghost use Rattle.std.specs.Option.{MatchOption};
 ghost use Rattle.std.specs.declared.option.Option.TheVariants.{None, Some};
 ghost use Rattle.opened.specs.Opening.{count_of};
 
-use crate::infinite_handle::InfiniteHandle;
 use crate::infinite::InfiniteQuotient;
+use crate::infinite_handle::InfiniteHandle;
 use std::alloc::Global;
 use std::mem;
 

@@ -7,8 +7,8 @@ ghost use Rattle.own_quotients.specs.Certified.{HasCertified, IsFaultOf, IsNumbe
 use crate::draft::draft;
 use crate::fault::CertifyFault;
 use crate::numbering::{Numbering, numbering_in};
-use checker::{Certified, Refusal, check};
 use crate::{OwnTable, alike, identity, not_associating, not_commuting, unreached};
+use checker::{Certified, Refusal, check};
 use std::alloc::Global;
 
 /// A table that is certified.

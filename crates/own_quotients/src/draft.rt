@@ -1,10 +1,10 @@
 //! A draft of a table's certificate. Nothing is promised of it but that the call ends.
 ghost use Rattle.std.specs.Prelude.{ℕ, ◌<◌};
 
+use crate::OwnTable;
 use allocation::Memory;
 use guesses::{Drafts, Guess};
 use misere_theory::LARGEST_ORDER;
-use crate::OwnTable;
 use std::alloc::Global;
 
 /// The element with 0 and the identity in each other's place.

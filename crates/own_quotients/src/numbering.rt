@@ -3,9 +3,9 @@ ghost use Rattle.std.specs.Prelude.{◌<◌, IfOk, IfSome};
 ghost use Rattle.own_quotients.specs.Carried.{IsCarried};
 ghost use Rattle.own_quotients.specs.Certified.{IsNumberingOf};
 
+use crate::{OwnTable, is_carried};
 use allocation::Memory;
 use certificate::{Cert, Key, TextFault, read};
-use crate::{OwnTable, is_carried};
 use std::alloc::Global;
 
 /// The number of each element, and the element of each number.

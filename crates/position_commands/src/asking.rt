@@ -9,13 +9,13 @@ ghost use Rattle.position_commands.specs.Wins.{TellsPresentedWins, TellsWins};
 
 use crate::quotients::speaks_of;
 use crate::wins::wins_said;
+use crate::{beyond, position_of};
 use allocation::Memory;
 use command_results::{Said, Stop};
-use streams::{Folder, Source};
 use given_quotients::{Quotient, quotient_of};
-use crate::{beyond, position_of};
 use positions::Position;
 use std::alloc::Global;
+use streams::{Folder, Source};
 
 /// What the quotient says of the position.
 fn said_by(alloc: Global, quotient: &Quotient, position: &Position) -> Result<Said, Memory>

@@ -7,10 +7,10 @@ ghost use Rattle.position_commands.specs.Many.{AnswersLine, AreFileOf, IsPlayLin
 
 use crate::playing::played;
 use command_results::{Said, Stop, first_line, input_lines};
-use streams::{Folder, Source};
 use given_quotients::{Quotient, quotient_of};
 use positions::{Position, PositionFault};
 use std::alloc::{AllocError, Global};
+use streams::{Folder, Source};
 
 /// That a line is no position.
 pub fn no_position(alloc: Global) -> Result<Said, AllocError>

@@ -10,13 +10,13 @@ ghost use Rattle.position_commands.specs.Plays.{AnswersIn, AnswersPresented, Ans
 use crate::play_lines::{answer_text, beyond_text};
 use answers::Certified;
 use command_results::{Said, Stop};
-use streams::{Folder, Source};
 use given_quotients::{Quotient, quotient_of};
 use label_players::{presented_answer, presented_fits, whole_answer};
 use player::{answer, fits};
 use positions::{Position, PositionFault};
 use presented_checker::PresentedQuotient;
 use std::alloc::{AllocError, Global};
+use streams::{Folder, Source};
 use whole_checker::WholeGame;
 
 /// The position of the text.

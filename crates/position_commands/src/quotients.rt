@@ -11,7 +11,9 @@ ghost use Rattle.position_commands.specs.Kinds.{HeapIn, IsAnswerIn, SpeaksIn, co
 
 use answers::Certified;
 use given_quotients::Quotient;
-use label_players::{presented_answer, presented_fits, presented_outcome_at, whole_answer, whole_outcome_at};
+use label_players::{
+    presented_answer, presented_fits, presented_outcome_at, whole_answer, whole_outcome_at,
+};
 use octal_code::Code;
 use player::{Answer, Outcome, answer, fits, outcome_by};
 use positions::{Options, Position, options_up_to};

@@ -10,17 +10,17 @@ ghost use Rattle.position_commands.specs.Apart.{SaysApart, SaysApartOfPresented,
 ghost use Rattle.position_commands.specs.Said.{AsksOfTwo, IsApartCause, SaysBy, SaysFoundOf};
 
 use crate::lines::{alike_text, apart_text, heavy_text, untried_text};
+use crate::{beyond, position_of};
 use allocation::Memory;
 use answers::Certified;
 use command_results::{Said, Stop};
-use streams::{Folder, Source};
 use given_quotients::{Quotient, quotient_of};
 use label_players::{Separation, presented_apart, presented_fits, whole_apart};
-use crate::{beyond, position_of};
 use player::{Outcome, fits, value};
 use positions::Position;
 use presented_checker::PresentedQuotient;
 use std::alloc::Global;
+use streams::{Folder, Source};
 use whole_checker::WholeGame;
 
 /// The least element that takes exactly one of the two into the portion, if there is one.

@@ -7,17 +7,19 @@ ghost use Rattle.position_commands.specs.Said.{AsksValue, SaysBy, SaysFoundOf};
 ghost use Rattle.position_commands.specs.Values.{TellsForm, TellsValue, TellsWholeValue};
 
 use crate::lines::{form_text, heavy_text, triple_text, value_text};
+use crate::{beyond, position_of};
 use allocation::Memory;
 use answers::Certified;
 use command_results::{Said, Stop};
-use streams::{Folder, Source};
 use given_quotients::{Quotient, quotient_of};
-use label_players::{presented_fits, presented_form, presented_outcome, whole_outcome, whole_value};
-use crate::{beyond, position_of};
+use label_players::{
+    presented_fits, presented_form, presented_outcome, whole_outcome, whole_value,
+};
 use player::{fits, outcome, value as element_of};
 use positions::Position;
 use presented_checker::PresentedQuotient;
 use std::alloc::Global;
+use streams::{Folder, Source};
 use whole_checker::WholeGame;
 
 /// The line of the position's element, of which the certificate speaks.

@@ -7,13 +7,13 @@ ghost use Rattle.heap_options.specs.Exact.{IsInOrder, heaps_of};
 ghost use Rattle.position_commands.specs.Kinds.{SpeaksIn, code_of, looks_of};
 ghost use Rattle.position_commands.specs.Wins.{AreHeapWins, AreOptionWins, TellsWins};
 
+use crate::answer_text;
 use crate::lines::many_text;
 use crate::quotients::{answer_in, looks, looks_bound, outcome_at, stays_inside};
 use allocation::Memory;
 use command_results::Said;
 use given_quotients::Quotient;
 use heap_options::options_are_exact;
-use crate::answer_text;
 use player::{Answer, Outcome};
 use positions::{Left, Move, Position};
 use std::alloc::{AllocError, Global};

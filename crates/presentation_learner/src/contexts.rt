@@ -1,7 +1,7 @@
 //! Contexts with which rounds begin.
 use crate::table::WordTable;
-use normal_forms::Exponents;
 use crate::{ONE, exponent, lengthened, with_exponent};
+use normal_forms::Exponents;
 use presentations::LETTERS;
 use quotient_search::Halt;
 use running_pairs::{at, rest};

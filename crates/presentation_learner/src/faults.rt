@@ -2,8 +2,8 @@
 use crate::forms::Forms;
 use crate::monomials::{beside, is_before, product, shortened_by};
 use crate::part::Rest;
-use normal_forms::{Exponents, Rule};
 use crate::{exponent, is_in, lengthened};
+use normal_forms::{Exponents, Rule};
 use presentations::LETTERS;
 use quotient_search::{Halt, Work};
 use running_pairs::{NONE, byte, put_byte};

@@ -2,8 +2,8 @@
 use crate::monomials::{beside, product, rule_in, shortened_by};
 use crate::part::{Part, Rest};
 use crate::table::WordTable;
-use normal_forms::{Exponents, Rule};
 use crate::{ONE, exponent, lengthened};
+use normal_forms::{Exponents, Rule};
 use quotient_search::{Halt, Work};
 use running_pairs::{NONE, at, byte, put, put_byte};
 use std::alloc::Allocator;

@@ -1,7 +1,7 @@
 //! From rules of generators to letters and relations by the order of words.
 use crate::forms::Forms;
-use normal_forms::{Exponents, Rule};
 use crate::{ONE, is_reducible_at, last_letter, lengthened};
+use normal_forms::{Exponents, Rule};
 use presentations::LETTERS;
 use quotient_search::{Halt, Work};
 use running_pairs::{NONE, put};

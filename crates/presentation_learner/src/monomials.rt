@@ -1,6 +1,6 @@
 //! Products of words of generators, and an order in which moves and relations lead downwards.
-use normal_forms::{Exponents, Rule};
 use crate::{ONE, exponent, is_in};
+use normal_forms::{Exponents, Rule};
 use presentations::LETTERS;
 use std::cmp::Ordering;
 

@@ -1,7 +1,7 @@
 //! The portion up to where outcomes surely repeat along each letter.
 use crate::forms::Forms;
-use normal_forms::{Exponents, Rule};
 use crate::{ONE, exponent, is_reducible_at, last_letter, lengthened};
+use normal_forms::{Exponents, Rule};
 use presented_text::LetterCycle;
 use quotient_search::{Halt, Work};
 use running_pairs::at;

@@ -1,8 +1,8 @@
 //! Standard words and new rules, word by word, by their order.
 use crate::forms::Forms;
 use crate::table::WordTable;
-use normal_forms::{Exponents, Rule};
 use crate::{ONE, exponent, is_reducible_at, last_letter, lengthened};
+use normal_forms::{Exponents, Rule};
 use quotient_search::{Halt, Work};
 use running_pairs::{NONE, at, byte, greatest, put, put_byte};
 use std::alloc::Allocator;

@@ -1,6 +1,6 @@
 //! Words with numbers.
-use normal_forms::{Exponents, is_word};
 use crate::{ONE, exponent};
+use normal_forms::{Exponents, is_word};
 use presentations::LETTERS;
 use quotient_search::Halt;
 use running_pairs::{NONE, put, rest};

@@ -8,8 +8,8 @@ ghost use Rattle.answers.specs.InfiniteRefusals.{refused};
 ghost use Rattle.presented_checker.specs.Refused.{Fits, IsBrokenAt};
 
 use allocation::{Memory, SmallAllocator};
-use class_tables::ListedWords;
 use answers::InfiniteRefusal;
+use class_tables::ListedWords;
 use normal_forms::Exponents;
 use octal_code::Code;
 use outcome_rule::rule_fails_at;

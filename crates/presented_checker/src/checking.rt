@@ -16,14 +16,14 @@ ghost use Rattle.presented_checker.specs.Refused.{Fits, HasOrder, IsOrder, IsRig
 
 use crate::breaking::broken;
 use crate::quotient::PresentedQuotient;
-use allocation::SmallAllocator;
 use crate::{is_endless, present_by_classes, roll, unroll};
+use allocation::SmallAllocator;
 use answers::InfiniteRefusal;
 use kept_positions::{NotFound, NotTold, tested_positions, told_apart};
 use normal_forms::{Basis, BasisFault};
-use presented_text::{PresentedText, TextFault, read};
 use presented_forms::{is_in_form, is_least};
 use presented_tables::{Presented, PresentedTables, TablesFault, tables_of};
+use presented_text::{PresentedText, TextFault, read};
 use std::alloc::Allocator;
 
 /// The most relations that are taken.

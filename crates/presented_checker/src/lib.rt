@@ -17,4 +17,7 @@ pub use by_classes::{is_endless, present_by_classes};
 pub use checking::check_presented;
 pub use quotient::PresentedQuotient;
 pub use unrolling::{Unrolled, roll, unroll};
-pub use whole_presentations::{enough_heaps_show_all, whole_lists_name_all_heaps, longer_lists_keep_the_form, whole_games_have_their_parts};
+pub use whole_presentations::{
+    enough_heaps_show_all, longer_lists_keep_the_form, whole_games_have_their_parts,
+    whole_lists_name_all_heaps,
+};

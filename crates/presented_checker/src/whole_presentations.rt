@@ -15,8 +15,6 @@ ghost use Rattle.presented_tables.specs.Tested.{HasWord};
 ghost use Rattle.presented_tables.specs.Faults.{LeavesOut};
 ghost use Rattle.presented_checker.specs.Unrolled.{unrolled, enough_heaps};
 
-
-
 /// A presentation of a whole game is right if it is right of as many heaps as are enough.
 pub fn enough_heaps_show_all()
     ensures { (c : PresentedSaid) (B : ℕ) → IsInRanges c → 0 < c.period → enough_heaps c ≤ B

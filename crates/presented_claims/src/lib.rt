@@ -16,4 +16,4 @@ mod word_cells;
 
 pub use finite_presentations::finite_presentations_are_quotients;
 pub use told_cells::{led_cells_have_one_fold, separated_cells_are_told};
-pub use word_cells::{folds_are_elements, classes_come_letter_by_letter};
+pub use word_cells::{classes_come_letter_by_letter, folds_are_elements};

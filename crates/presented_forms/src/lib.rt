@@ -17,4 +17,6 @@ mod within;
 
 pub use form::is_in_form;
 pub use least::is_least;
-pub use one_presentation::{reduced_bases_are_unique, closed_words_show_new_letters, presentations_are_unique};
+pub use one_presentation::{
+    closed_words_show_new_letters, presentations_are_unique, reduced_bases_are_unique,
+};

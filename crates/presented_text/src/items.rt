@@ -3,9 +3,9 @@ ghost use Rattle.std.specs.Prelude.{◌≡◌, ◌≤◌, ◌<◌, IfOk};
 ghost use Rattle.certificate_lines.specs.Given.{Gives};
 ghost use Rattle.presented_text.specs.Reading.{positive_at, heap_word_at, relation_at, cycle_at};
 
+use crate::{LARGEST_CYCLE, LetterCycle, word};
 use certificate_lines::{Reader, TextFault, Wanted};
 use normal_forms::{Exponents, Rule};
-use crate::{LARGEST_CYCLE, LetterCycle, word};
 
 /// A number from 1 up to below the limit.
 #[tactic(auto, unfolding(crate::specs::Reading::positive_at))]

@@ -5,9 +5,9 @@ ghost use Rattle.presented_text.specs.Read.{spelled_at};
 ghost use Rattle.presented_text.specs.Reading.{while_at, positive_at, heap_word_at, relation_at, cycle_at};
 
 use crate::items::{cycle, heap_word, positive, relation};
+use crate::{LetterCycle, word};
 use certificate_lines::{Reader, TextFault};
 use normal_forms::{Exponents, Rule};
-use crate::{LetterCycle, word};
 use std::alloc::Allocator;
 
 /// Numbers from 1 up to below the limit, at most `room`.

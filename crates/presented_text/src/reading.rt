@@ -9,8 +9,8 @@ ghost use Rattle.presented_text.specs.Spelling.{SpellsPresented};
 ghost use Rattle.presented_text.specs.Reading.{front_at, some_at, exact_at, while_at, positive_at, heap_word_at, relation_at, cycle_at, said_at};
 
 use crate::items::positive;
-use crate::{LetterCycle, MOST_GENERATORS, MOST_HEAPS, MOST_ITEMS, lists};
 use crate::text::PresentedText;
+use crate::{LetterCycle, MOST_GENERATORS, MOST_HEAPS, MOST_ITEMS, lists};
 use certificate_lines::{Reader, TextFault, Wanted, code_line};
 use normal_forms::Exponents;
 use octal_code::Code;

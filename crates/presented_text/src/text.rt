@@ -1,7 +1,7 @@
 //! What a text of a presentation says, in memory.
+use crate::LetterCycle;
 use normal_forms::{Exponents, Rule};
 use octal_code::Code;
-use crate::LetterCycle;
 use std::alloc::{Allocator, Global};
 use std::marker::Model;
 

@@ -3,9 +3,9 @@ use crate::certificates::{OF_0_75, RIGHT_UP_TO_8};
 use crate::comparing::bound;
 use allocation::SmallAllocator;
 use desk::{Client, Desk, Event, Reply, Step, read_script};
+use devices::Ration;
 use player::{Answer, Outcome};
 use positions::Left;
-use devices::Ration;
 use std::alloc::Global;
 
 /// The second client's certificate is right up to heap 8 alone.

@@ -1,12 +1,12 @@
 //! Files of the machine, of which one kind of call fails.
 use crate::comparing::compare;
 use crate::folders_tests::{is_absent, is_read_as, temporary};
-use streams::{FileFault, Folder, HostFolder};
 use std::alloc::{Allocator, Global};
 use std::fs::{File, Metadata, OpenFile, OpenOptions};
 use std::io::{ErrorKind, Read, Seek, SeekFrom, Write};
 use std::rt::Files;
 use std::{fs, io};
+use streams::{FileFault, Folder, HostFolder};
 
 /// A kind of call.
 #[derive(Clone, Copy, PartialEq, Eq)]

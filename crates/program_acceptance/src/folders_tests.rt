@@ -1,9 +1,9 @@
 //! Files in memory, of which one call fails, also as a disk, and those of the machine.
 use crate::comparing::compare;
-use streams::{FileFault, Folder, HostFolder, MemoryFolder, read_all, replace};
 use std::alloc::Global;
 use std::fs;
 use std::test::Fail;
+use streams::{FileFault, Folder, HostFolder, MemoryFolder, read_all, replace};
 
 /// Whether the file is read as the text, or why it isn't read.
 pub fn is_read_as<F: Folder>(folder: &mut F, name: &str, text: &str) -> Result<bool, FileFault> {

@@ -1,13 +1,13 @@
 //! Either proposer, so that a list can hold both.
 ghost use Rattle.quotient_finder.specs.ProposedHistories.{history_of};
 
+use crate::Proposer;
 use crate::refiner::Refiner;
 use crate::sampler::Sampler;
 use allocation::Memory;
 use answers::Refusal;
 use guesses::Reason;
 use octal_code::Code;
-use crate::Proposer;
 
 /// A refiner or a sampler.
 #[derive(Drop)]

@@ -1,11 +1,11 @@
 //! The proposer that guesses heap by heap.
 ghost use Rattle.std.specs.Prelude.{◌≡◌, []};
 
+use crate::{History, Proposer};
 use allocation::Memory;
 use answers::Refusal;
 use guesses::{Drafts, Guess, Guesser, Reason};
 use octal_code::Code;
-use crate::{History, Proposer};
 use std::alloc::Global;
 
 /// Drafts what is guessed of the heaps up to some size, for a whole game or for the part of just

@@ -1,11 +1,11 @@
 //! The proposer that groups sampled positions by their outcomes.
 ghost use Rattle.std.specs.Prelude.{◌≡◌, []};
 
+use crate::{History, Proposer};
 use allocation::Memory;
 use answers::Refusal;
 use guesses::{Drafts, sampled};
 use octal_code::Code;
-use crate::{History, Proposer};
 use std::alloc::Global;
 
 /// Drafts what a small sample of positions suggests.

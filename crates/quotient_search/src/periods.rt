@@ -2,8 +2,6 @@
 ghost use Rattle.std.specs.Prelude.{◌≤◌, ◌<◌, ◌+◌, ◌↔◌, ℕ, length, IfSome, IsNone};
 ghost use Rattle.quotient_search.specs.Periods.{HasNoPeriod, IsLeastPeriod, RepeatsFrom};
 
-
-
 /// The least period of the entries e1, e2, .., and the least start from which on they have it: over
 /// the starts s and periods p from 1 on for which e(i + p) = e(i) from s to the end, and which show
 /// the period twice, the least p, and then the least s. `None` exactly where there is no such pair.

@@ -7,9 +7,9 @@ use crate::repair::repair;
 use crate::scene::Scene;
 use crate::state::State;
 use crate::work::{Halt, Means, Work};
+use crate::{is_shown, repeats_from};
 use allocation::Memory;
 use octal_code::Code;
-use crate::{is_shown, repeats_from};
 use std::alloc::Allocator;
 
 /// Adds the heap n, and makes the quotient right.

@@ -8,9 +8,9 @@ use catalogue_command::act;
 use command_results::Stop;
 use desk_command::run_file;
 use devices::FailingSink;
-use streams::{MemoryFolder, MemorySink};
 use requests::CatalogueTask;
 use std::alloc::Global;
+use streams::{MemoryFolder, MemorySink};
 
 /// The catalogue of the quotient of 0.3.
 const ONE_ENTRY: &str =

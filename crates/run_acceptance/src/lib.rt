@@ -29,4 +29,3 @@ mod relations_tests;
 mod rows;
 #[cfg(test)]
 mod told_labels_tests;
-

@@ -2,8 +2,8 @@
 //! ⟨a, b | a² = 1, b³ = b⟩, and its P-portion {a, b²} (Plambeck and Siegel).
 use given_quotients::begins_presented;
 use presented_checker::check_presented;
-use verdict_commands::presented_said;
 use std::alloc::Global;
+use verdict_commands::presented_said;
 
 /// What is said of a text, if memory allows.
 fn is_said(alloc: Global, text: &[u8], line: &[u8]) -> bool {

@@ -10,9 +10,9 @@ use crate::presented::presented_said;
 use crate::telling::{ToldTable, certify_bytes};
 use allocation::Memory;
 use command_results::{Said, Stop};
-use streams::{Folder, Source};
 use given_quotients::begins_presented;
 use std::alloc::Global;
+use streams::{Folder, Source};
 
 /// What is said where this is told.
 fn said(told: ToldTable) -> Said

@@ -5,8 +5,8 @@ ghost use Rattle.given_quotients.specs.Checks.{AreGiven, failed};
 ghost use Rattle.solve_command.specs.Certifies.{IsTableCause, IsTableInputCause};
 
 use command_results::{Stop, read_file};
-use streams::{Folder, Source, StreamFault, read_whole};
 use std::alloc::Global;
+use streams::{Folder, Source, StreamFault, read_whole};
 
 /// The most bytes of a table: 96 MiB. The longest text of a table has less.
 pub const LARGEST_TABLE: usize = 100663296;

@@ -4,10 +4,10 @@ ghost use Rattle.solve_command.specs.Series.{IsOrder, part_of};
 
 use crate::laws::still_heaps_have_one_class;
 use crate::still::are_still;
+use crate::{Searches, SolveBounds, certificate_by};
 use allocation::Memory;
 use octal_code::Code;
 use requests::{Aim, DEFAULT_ROUNDS, PartsBounds};
-use crate::{Searches, SolveBounds, certificate_by};
 use std::alloc::Global;
 
 /// How far the search for the quotient of the heaps 1 to `last` goes.

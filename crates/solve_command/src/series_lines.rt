@@ -2,12 +2,12 @@
 ghost use Rattle.std.specs.Prelude.{◌≡◌, IfOk, string_bytes};
 ghost use Rattle.solve_command.specs.Series.{HasSeries, order_line};
 
+use crate::Searches;
 use crate::orders::order_of;
 use allocation::Memory;
 use command_results::Said;
 use octal_code::Code;
 use requests::PartsBounds;
-use crate::Searches;
 use std::alloc::Global;
 
 /// The line of the heaps 1 to `last`.

@@ -4,10 +4,10 @@ ghost use Rattle.solve_command.specs.Series.{IsSeries, IsSeriesBy};
 ghost use Rattle.solve_command.specs.Solved.{IsNoCode, IsSolveCause};
 
 use crate::series_lines::order_lines;
+use crate::{Proposing, Searches};
 use command_results::{Said, Stop};
 use octal_code::Code;
 use requests::PartsBounds;
-use crate::{Proposing, Searches};
 use std::alloc::Global;
 
 /// Searches for the quotients of the heaps 1 to n of the code that the text spells, for n = 1, 2, ..

@@ -7,10 +7,10 @@ ghost use Rattle.verdict_commands.specs.Explained.{Explains, ExplainsGiven};
 use crate::kinds::{Seen, kind_of};
 use crate::stops::stop_text;
 use allocation::Memory;
-use given_quotients::{fronts_decide, given_bytes};
 use command_results::{Said, Stop};
-use streams::{Folder, Source};
+use given_quotients::{fronts_decide, given_bytes};
 use std::alloc::Global;
+use streams::{Folder, Source};
 use verdict_texts::MOST_BYTES;
 
 /// What is said of the bytes.

@@ -7,14 +7,16 @@ ghost use Rattle.verdict_commands.specs.Told.{TellsEither};
 ghost use Rattle.verdict_commands.specs.Checks.{ChecksEither, FindsInfinite, JudgesEndless, JudgesInfinite, found_line};
 ghost use Rattle.verdict_texts.specs.Lines.{no_line};
 
-use allocation::Memory;
-use given_quotients::{begins_presented, begins_whole, given_bytes, judged_presented, judged_whole, refusal_text};
-use command_results::{Said, Stop};
-use streams::{Folder, Source};
-use answers::InfiniteRefusal;
-use presented_checker::PresentedQuotient;
 use crate::yes_text;
+use allocation::Memory;
+use answers::InfiniteRefusal;
+use command_results::{Said, Stop};
+use given_quotients::{
+    begins_presented, begins_whole, given_bytes, judged_presented, judged_whole, refusal_text,
+};
+use presented_checker::PresentedQuotient;
 use std::alloc::Global;
+use streams::{Folder, Source};
 use whole_checker::WholeGame;
 
 /// What a text shows.

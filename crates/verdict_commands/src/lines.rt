@@ -3,8 +3,8 @@ ghost use Rattle.std.specs.Prelude.{◌≡◌, IfOk};
 ghost use Rattle.std.specs.String.{string_bytes};
 ghost use Rattle.verdict_commands.specs.WordExplained.{byte_words, code_byte_line, code_fault_line, large_line, leading_line, long_line, many_line, no_size_line, numbered_byte, position_fault_line, printed_byte, second_point_line, size_byte_line, zero_line};
 
-use std::alloc::{AllocError, Global};
 use crate::{WrittenCodeFault, WrittenPositionFault};
+use std::alloc::{AllocError, Global};
 
 fn printed_text(alloc: Global, byte: u8) -> Result<String, AllocError>
     ensures { IfOk result (λ t. string_bytes t ≡ printed_byte byte) }

@@ -8,10 +8,10 @@ ghost use Rattle.position_commands.specs.Many.{AreFileOf, IsPlayLinesCause};
 use crate::infinite::{ShownText, found};
 use crate::playing::played;
 use command_results::{Said, Stop, first_line, input_lines};
-use streams::{Folder, Source};
 use position_commands::no_position;
 use positions::{Position, PositionFault};
 use std::alloc::{AllocError, Global};
+use streams::{Folder, Source};
 
 /// What is said of a line: what `play_infinite` says in its position, or that it is none.
 fn line_answer(alloc: Global, found: &ShownText, line: &[u8]) -> Result<Said, AllocError>

@@ -6,10 +6,10 @@ ghost use Rattle.position_commands.specs.Plays.{IsPlayCause};
 
 use crate::infinite::{ShownText, found};
 use command_results::{Said, Stop};
-use streams::{Folder, Source};
 use position_commands::{position_of, presented_played, whole_played};
 use positions::Position;
 use std::alloc::{AllocError, Global};
+use streams::{Folder, Source};
 
 /// What is said in the position by what was found.
 pub(crate) fn played(

@@ -8,11 +8,11 @@ ghost use Rattle.label_descriptions.specs.Described.{presented_text_for};
 use crate::infinite::{ShownText, found};
 use allocation::Memory;
 use command_results::{Said, Stop};
-use streams::{Folder, Source};
 use label_descriptions::{Output, presented_text, whole_text};
 use presented_checker::PresentedQuotient;
 use requests::Layout;
 use std::alloc::Global;
+use streams::{Folder, Source};
 use whole_checker::WholeGame;
 
 /// For whom the text is.

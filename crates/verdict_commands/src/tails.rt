@@ -7,11 +7,11 @@ ghost use Rattle.verdict_commands.specs.Lines.{IsTailText, TailsFound, Tails, no
 use allocation::Memory;
 use answers::Certified;
 use certificate::Cert;
-use given_quotients::certified;
 use command_results::{Said, Stop};
-use streams::{Folder, Source};
+use given_quotients::certified;
 use nim_tails::{Tail, TailFault, tail_of};
 use std::alloc::{AllocError, Global};
+use streams::{Folder, Source};
 
 fn normal_text(alloc: Global, cert: &Cert, tail: Tail) -> Result<String, Memory>
     ensures { IfOk result (λ t. string_bytes t ≡ normal_line cert.now tail) }

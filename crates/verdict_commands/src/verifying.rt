@@ -3,13 +3,13 @@ ghost use Rattle.std.specs.Prelude.{◌≡◌, false, IfOk, IfErr, is_none, is_s
 ghost use Rattle.given_quotients.specs.Checks.{AreGiven, IsGivenCause, SaysVerdict, failed};
 ghost use Rattle.verdict_commands.specs.Verifies.{SaysOfAny, Verifies};
 
+use crate::{presented_said, said_of_bytes};
 use allocation::Memory;
-use given_quotients::{begins_presented, begins_whole, fronts_decide, given_bytes};
 use checker::{Checker, verdicts_are_true};
 use command_results::{Said, Stop};
-use streams::{Folder, Source};
-use crate::{presented_said, said_of_bytes};
+use given_quotients::{begins_presented, begins_whole, fronts_decide, given_bytes};
 use std::alloc::Global;
+use streams::{Folder, Source};
 use verdict_texts::checked_bytes;
 
 /// What `check` says of the bytes.

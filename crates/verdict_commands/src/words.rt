@@ -3,9 +3,9 @@ ghost use Rattle.std.specs.Prelude.{IfOk};
 ghost use Rattle.verdict_commands.specs.WordExplained.{ExplainsCode, ExplainsPosition};
 
 use crate::lines::{code_fault_text, position_fault_text};
+use crate::{code_fault, faults_refuse_codes, faults_refuse_positions, position_fault};
 use command_results::Said;
 use std::alloc::{AllocError, Global};
-use crate::{code_fault, faults_refuse_codes, faults_refuse_positions, position_fault};
 
 /// Says why the text is no code: the first of its faults; or that it is a code.
 pub fn explain_code(alloc: Global, code: &str) -> Result<Said, AllocError>

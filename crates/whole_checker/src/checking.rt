@@ -9,13 +9,13 @@ ghost use Rattle.dominance_text.specs.Spelling.{SpellsDominance};
 ghost use Rattle.answers.specs.InfiniteRefusals.{refused};
 ghost use Rattle.whole_checker.specs.Solved.{IsRefusedWhole, IsRefutedWhole, IsSolved};
 
+use crate::failing_position;
 use crate::game::WholeGame;
 use crate::ranks::ranks;
 use allocation::{Memory, SmallAllocator};
-use dominance_text::{DominanceText, TextFault, read};
-use dominance_checker::{Shape, is_accepted, is_represented};
-use crate::failing_position;
 use answers::InfiniteRefusal;
+use dominance_checker::{Shape, is_accepted, is_represented};
+use dominance_text::{DominanceText, TextFault, read};
 use std::alloc::Allocator;
 
 /// From which heap on the text's numbers repeat.

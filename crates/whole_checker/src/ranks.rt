@@ -4,8 +4,8 @@ ghost use Rattle.dominance_checker.specs.Ranks.{rank_at, triple_in};
 ghost use Rattle.dominance_text.specs.Labels.{listed_triple};
 
 use allocation::Memory;
-use dominance_text::DominanceText;
 use dominance_checker::Rank;
+use dominance_text::DominanceText;
 use std::alloc::Allocator;
 
 /// The rank of each heap up to the end of the first period, from that of the heap 0 on, which is none.
