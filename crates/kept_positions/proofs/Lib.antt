@@ -1,7 +1,7 @@
 pub mod Bad
 pub mod NoneBad
 pub mod Movable
-pub mod Tested
+pub mod TestedLabels
 pub mod Told
 pub mod Below
 pub mod Positions

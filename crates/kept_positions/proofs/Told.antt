@@ -6,7 +6,7 @@ use Rattle.misere_theory.specs.Labels.{LabelClaim, label_of, AreLabels, Represen
 use Rattle.misere_theory.proofs.LabelLaws.{represents_by}
 use Rattle.kept_positions.specs.Telling.{AreToldOrLowered}
 use Rattle.kept_positions.specs.Presented.{AreTestedLabels}
-use Rattle.kept_positions.proofs.Tested.{predicted}
+use Rattle.kept_positions.proofs.TestedLabels.{predicted}
 
 module _
     {L : Type 0} (IsLabel : L → Type 0) (c : LabelClaim L) (m : AreLabels IsLabel c.one c.times)

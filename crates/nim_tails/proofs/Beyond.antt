@@ -13,7 +13,7 @@ use Rattle.nim_tails.specs.NormalTails.{IsRegular, IsNormalAbove, IsNormalKernel
 use Rattle.nim_tails.proofs.Outcomes.{determined as normal_determined, not_both as normal_not_both, p_leads_to_normal_n, nim_sums_tell}
 use Rattle.nim_tails.proofs.Regular.{above_or_within, moves_above, can_move}
 use Rattle.nim_tails.proofs.Ideals.{multiple_of_kernel}
-use Rattle.nim_tails.proofs.Kernel.{multiple_by_heap, kernel_tells}
+use Rattle.nim_tails.proofs.NormalKernel.{multiple_by_heap, kernel_tells}
 
 -- a position that has moves, all to positions with the same outcomes, has the same outcomes
 same_by_options : (code X : List ℕ) → ((Y : List ℕ) × Move code X Y)

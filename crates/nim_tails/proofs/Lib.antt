@@ -1,5 +1,5 @@
 mod Digits
-mod Sums
+mod TailSums
 mod Groups
 mod Tested
 mod Walked
@@ -11,6 +11,6 @@ mod Outcomes
 pub mod Mex
 mod Regular
 pub mod Ideals
-mod Kernel
+mod NormalKernel
 pub mod Failed
 pub mod Beyond

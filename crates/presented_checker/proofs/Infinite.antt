@@ -14,7 +14,7 @@ use Rattle.presentations.proofs.VectorLaws.{only-here}
 use Rattle.normal_forms.proofs.Steps.{forms as forms_of}
 use Rattle.kept_positions.specs.Presented.{AreTestedLabels}
 use Rattle.kept_positions.specs.Telling.{AreToldOrLowered}
-use Rattle.kept_positions.proofs.Tested.{predicted}
+use Rattle.kept_positions.proofs.TestedLabels.{predicted}
 use Rattle.presented_text.specs.Said.{PresentedSaid, IsInRanges}
 use Rattle.presented_claims.specs.Claims.{IsElement, claim_of}
 use Rattle.presented_forms.specs.Form.{IsInForm}

@@ -9,7 +9,7 @@ use Rattle.presented_text.specs.Said.{PresentedSaid}
 use Rattle.presented_claims.specs.Claims.{has_word, word_or_one, in_portion}
 use Rattle.presented_forms.specs.Only.{IsOnly}
 use Rattle.presented_forms.proofs.Bases.{Carries, one-basis}
-use Rattle.presented_forms.proofs.Portion.{one-cycles, one-portion}
+use Rattle.presented_forms.proofs.OnePortion.{one-cycles, one-portion}
 use Rattle.presented_forms.proofs.One.{IsGiven, form_of, one-letters, relations-carried, portion-carried, same-word-of}
 use Rattle.presented_forms.proofs.Heaps.{heard, one-list}
 

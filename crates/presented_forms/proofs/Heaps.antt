@@ -7,7 +7,7 @@ use Rattle.std.proofs.lemmas.List.{ext_get_or}
 use Rattle.presented_text.specs.Said.{PresentedSaid, IsInRanges}
 use Rattle.presented_claims.specs.Claims.{listed_heap, listed_word, has_word}
 use Rattle.presented_forms.specs.Only.{WordsRepeat, IsLeastList}
-use Rattle.presented_forms.proofs.Least.{IsLeast, one-least}
+use Rattle.presented_forms.proofs.OneLeast.{IsLeast, one-least}
 use Rattle.presented_forms.proofs.Words.{near, far-none, far-some}
 
 -- ---- what repeats along the numbers

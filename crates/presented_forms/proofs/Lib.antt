@@ -11,9 +11,9 @@ pub mod Lists
 pub mod Orders
 pub mod Bases
 pub mod Closed
-pub mod Least
-pub mod Cycles
-pub mod Portion
+pub mod OneLeast
+pub mod OneCycles
+pub mod OnePortion
 pub mod Words
 pub mod One
 pub mod Heaps

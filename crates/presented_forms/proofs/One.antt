@@ -22,7 +22,7 @@ use Rattle.presented_forms.specs.Form.{IsStandardIfSome, IsInForm}
 use Rattle.presented_forms.specs.Only.{HasLetter, IsInSmaller, IsOfSmaller, IsMade, IsLeast, IsOnly}
 use Rattle.presented_forms.proofs.Lists.{same}
 use Rattle.presented_forms.proofs.Bases.{Carries, form-standard, form-related}
-use Rattle.presented_forms.proofs.Portion.{in-element}
+use Rattle.presented_forms.proofs.OnePortion.{in-element}
 use Rattle.presented_forms.proofs.Words.{none-some, in-list, listed-le, heap-long, heap-is, heap-listed, position-long, one-heap, label-is, HasBoth, position}
 
 abbrev Has : PresentedSaid → ℕ → Type 0

@@ -1,7 +1,7 @@
-pub mod Lists
+pub mod ListLaws
 pub mod Lines
 pub mod TextLaws
 pub mod Powers
-pub mod Words
+pub mod WordLaws
 pub mod WordLoop
 pub mod Loop

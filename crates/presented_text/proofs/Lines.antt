@@ -11,12 +11,12 @@ use Rattle.relations.specs.Printed.{or_one}
 use Rattle.presented_text.specs.Spelled.{powers_text, spelled, IsSpellable}
 use Rattle.presented_text.specs.Read.{spelled_at}
 use Rattle.presented_text.proofs.Powers.{no_fixed}
-use Rattle.presented_text.proofs.Words.{spelled_takes, spelled_again}
+use Rattle.presented_text.proofs.WordLaws.{spelled_takes, spelled_again}
 use Rattle.presented_text.specs.declared.TheConstants.{LARGEST_CYCLE}
 use Rattle.presented_text.specs.Said.{IsHeapWord, IsSpellablePair, IsCycle}
 use Rattle.presented_text.specs.Spelling.{heap_word}
 use Rattle.presented_text.specs.Reading.{positive_at, heap_word_at, relation_at, cycle_at}
-use Rattle.presented_text.proofs.Lists.{IsReaderBefore, IsLow}
+use Rattle.presented_text.proofs.ListLaws.{IsReaderBefore, IsLow}
 
 pub low_digit : (s : ℕ) → s < 48 → is_digit s ≡ false
 low_digit s low = rw (lt-leb 48 s low) refl

@@ -19,7 +19,7 @@ use Rattle.presented_text.specs.declared.TheConstants.{MOST_HEAPS, MOST_ITEMS, M
 use Rattle.presented_text.specs.Said.{PresentedSaid, IsInRanges}
 use Rattle.presented_text.specs.Spelling.{heap_word, heaps_words, relation_line, presented_lines, SpellsPresented}
 use Rattle.presented_text.specs.Reading.{positive_at, front_at, said_at}
-use Rattle.presented_text.proofs.Lists.{IsReaderBefore, IsLow, signed, while_takes, while_again, some_takes, some_again, exact_takes, exact_again}
+use Rattle.presented_text.proofs.ListLaws.{IsReaderBefore, IsLow, signed, while_takes, while_again, some_takes, some_again, exact_takes, exact_again}
 use Rattle.presented_text.proofs.Lines.{IsPositive, positive_reader, word_reader, heap_word_reader, pair_text, relation_reader, cycle_reader}
 
 -- ---- the lines up to the heaps

@@ -4,4 +4,4 @@ mod Moves
 mod SeriesParts
 mod Parts
 pub mod Streams
-pub mod Told
+pub mod ToldTexts

@@ -7,4 +7,4 @@ mod Joins
 mod Quotients
 mod Given
 mod Spelling
-mod Words
+mod FaultyWords

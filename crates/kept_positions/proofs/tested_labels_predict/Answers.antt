@@ -1,5 +1,5 @@
 use Rattle.std.proofs.Common.{◌≡◌, true}
-use Rattle.kept_positions.proofs.Tested.{predicted}
+use Rattle.kept_positions.proofs.TestedLabels.{predicted}
 use Rattle.kept_positions.proofs.tested_labels_predict.Goals as goal
 
 pub returns : goal.returns

@@ -1,7 +1,7 @@
 use Rattle.std.proofs.Common.{◌+◌, ◌∙◌, sym, ap, subst}
 use Rattle.std.specs.Prelude.{slice_index}
 use Rattle.nim_tails.specs.Normal.{nim_sum}
-use Rattle.nim_tails.proofs.Sums.{AreSumsBelow, one_sum_more}
+use Rattle.nim_tails.proofs.TailSums.{AreSumsBelow, one_sum_more}
 use Rattle.nim_tails.proofs.elements.element_sums.Goals as goal
 
 pub loop-x-preserved : goal.loop-x-preserved

@@ -1,4 +1,4 @@
-use Rattle.nim_tails.proofs.Sums.{AreSumsBelow}
+use Rattle.nim_tails.proofs.TailSums.{AreSumsBelow}
 use Rattle.nim_tails.proofs.elements.element_sums.Given as goal
 
 abbrev pub invariant-loop-x : goal.invariant-loop-x

@@ -1,4 +1,4 @@
-use Rattle.presented_text.proofs.Words.{spelled_takes, spelled_again, one_word}
+use Rattle.presented_text.proofs.WordLaws.{spelled_takes, spelled_again, one_word}
 use Rattle.presented_text.proofs.laws.words_are_read.Goals as goal
 
 pub returns-clause-takes : goal.returns-clause-takes

@@ -1,7 +1,7 @@
 use Rattle.std.proofs.Common.{rules, ◌≡◌, ◌∙◌, arith, refl}
 use Rattle.std.specs.String.{string_bytes}
 use Rattle.solve_command.specs.Certifies.AreNotCertified.{NoTable}
-use Rattle.solve_command.proofs.Told.{table_told}
+use Rattle.solve_command.proofs.ToldTexts.{table_told}
 use Rattle.solve_command.proofs.telling.certify_bytes.Goals as goal
 
 pub returns-in-Ok-clause-tells : goal.returns-in-Ok-clause-tells

@@ -1,4 +1,4 @@
-use Rattle.solve_command.proofs.Told.{fault_is_other, fault_told}
+use Rattle.solve_command.proofs.ToldTexts.{fault_is_other, fault_told}
 use Rattle.solve_command.proofs.telling.tell_table.Goals as goal
 
 pub returns-clause-tells : goal.returns-clause-tells

@@ -1,4 +1,4 @@
-use Rattle.verdict_commands.proofs.Words.{refused}
+use Rattle.verdict_commands.proofs.FaultyWords.{refused}
 use Rattle.verdict_commands.proofs.laws.faults_refuse_positions.Goals as goal
 
 pub returns : goal.returns

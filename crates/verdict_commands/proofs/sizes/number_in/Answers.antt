@@ -1,6 +1,6 @@
 use Rattle.std.proofs.Common.{arith}
 use Rattle.positions.proofs.Words.{read_more}
-use Rattle.verdict_commands.proofs.Words.{all_read}
+use Rattle.verdict_commands.proofs.FaultyWords.{all_read}
 use Rattle.verdict_commands.proofs.sizes.number_in.Goals as goal
 
 pub loop-byte-preserved : goal.loop-byte-preserved

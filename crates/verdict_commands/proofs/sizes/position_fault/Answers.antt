@@ -1,7 +1,7 @@
 use Rattle.std.proofs.Common.{arith}
 use Rattle.std.proofs.lemmas.Bool.{iff_false}
 use Rattle.verdict_commands.specs.Sizes.IsPositionFault.{HasNoByte, InWord, HasMany}
-use Rattle.verdict_commands.proofs.Words.{is_nothing, is_position, no_heap}
+use Rattle.verdict_commands.proofs.FaultyWords.{is_nothing, is_position, no_heap}
 use Rattle.verdict_commands.proofs.sizes.position_fault.Goals as goal
 
 pub returns-then-is_empty : goal.returns-then-is_empty

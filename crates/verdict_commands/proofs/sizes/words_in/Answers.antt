@@ -1,6 +1,6 @@
 use Rattle.std.proofs.Common.{◌≡◌, ◌<◌, ◌+◌, ◌-◌, ◌∙◌, List, ℕ, length, take, drop, subst, sym, ap, suc, add-one, arith}
 use Rattle.positions.proofs.Words.{rest_is}
-use Rattle.verdict_commands.proofs.Words.{IsPassed, all_passed, at_fault, first_passed, one_more}
+use Rattle.verdict_commands.proofs.FaultyWords.{IsPassed, all_passed, at_fault, first_passed, one_more}
 use Rattle.verdict_commands.proofs.sizes.words_in.Goals as goal
 
 pub loop-fault-init : goal.loop-fault-init

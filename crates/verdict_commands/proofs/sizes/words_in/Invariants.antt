@@ -1,5 +1,5 @@
 use Rattle.std.proofs.Common.{length}
-use Rattle.verdict_commands.proofs.Words.{IsPassed}
+use Rattle.verdict_commands.proofs.FaultyWords.{IsPassed}
 use Rattle.verdict_commands.proofs.sizes.words_in.Given as goal
 
 abbrev pub invariant-loop-fault : goal.invariant-loop-fault

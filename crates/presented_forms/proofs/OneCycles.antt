@@ -5,7 +5,7 @@ use Rattle.presentations.specs.declared.TheConstants.{LETTERS}
 use Rattle.presentations.specs.Vectors.{plus, zeros, only}
 use Rattle.presentations.proofs.VectorLaws.{cons-same, length-only, only-here, plus-assoc, plus-zeros}
 use Rattle.normal_forms.proofs.Words.{plus-at, length-sum}
-use Rattle.presented_forms.proofs.Least.{IsLeast, one-least}
+use Rattle.presented_forms.proofs.OneLeast.{IsLeast, one-least}
 
 zeros-sum : (n : ℕ) → plus (zeros n) (zeros n) ≡ zeros n
 zeros-sum zero = refl

@@ -23,8 +23,8 @@ use Rattle.presented_forms.specs.Only.{RepeatsAlong, IsLeastCycle, IsLeast as Is
 use Rattle.presented_forms.proofs.Each.{every}
 use Rattle.presented_forms.proofs.Lists.{same}
 use Rattle.presented_forms.proofs.Orders.{precedes-never, precedes-trans}
-use Rattle.presented_forms.proofs.Least.{IsLeast}
-use Rattle.presented_forms.proofs.Cycles.{more, more-long, more-at, Repeats, one-cycle}
+use Rattle.presented_forms.proofs.OneLeast.{IsLeast}
+use Rattle.presented_forms.proofs.OneCycles.{more, more-long, more-at, Repeats, one-cycle}
 
 -- ---- what cycles make of words
 
