@@ -15,7 +15,7 @@ HEADINGS = {
     "Checking": ("the verdict, its text, and the headline", "#f8d7da"),
     "Playing and keeping": ("what a certified quotient says, and where it is kept", "#e8daef"),
     "Finding": ("guesses, and what the checker accepts of them", "#fde5d0"),
-    "Commands": ("what the words of the program do, one crate each", "#d9f0ee"),
+    "Commands": ("what the words of the program do", "#d9f0ee"),
     "Program and tests": ("what all use, the program, the libraries, and the tests", "#e5e7e9"),
 }
 

@@ -1,5 +1,5 @@
 //! Infinite quotients and presentations for C: a static library of calls, to be linked with those of the checker, and the
-//! search for them. What the others do stands in `infinite_queries` and `infinite_texts`.
+//! search for them. What the others do stands in `infinite_queries`.
 #![tactic(auto)]
 
 mod exports;

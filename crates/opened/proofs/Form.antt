@@ -1,4 +1,4 @@
--- The form of a `Handle`, by which it has the walks of `owners`.
+-- The form of a `Handle`, by which it has the walks of `Handles`.
 use Rattle.std.proofs.Common.{refl}
 use denote.RattleType.{RattleType}
 use Rattle.opened.proofs.Handles.{Form}

@@ -1,4 +1,4 @@
--- The form of a `InfiniteHandle`, by which it has the walks of `owners`.
+-- The form of an `InfiniteHandle`, by which it has the walks of `Handles`.
 use Rattle.std.proofs.Common.{refl}
 use denote.RattleType.{RattleType}
 use Rattle.opened.proofs.Handles.{Form}

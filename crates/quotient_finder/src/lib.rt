@@ -1,7 +1,8 @@
 //! The search for a certificate: proposers draft, the checker decides.
 //!
 //! Nothing is believed of a proposer. What `find` hands out is certified for the code and
-//! kind that were asked, whatever the proposers do. `Sampler` and `Refiner` are proposers by search; nothing is promised of their drafts.
+//! kind that were asked, whatever the proposers do. `Sampler` and `Refiner` are proposers by search;
+//! nothing is promised of their drafts.
 #![tactic(auto)]
 
 mod either;

@@ -1,6 +1,6 @@
-//! The commands that make certificates: `solve`, from a code; `solve --infinite`, the whole game or the presentation of a
-//! part whose quotient is infinite; `certify`, from a table in a numbering of one's own, or from a presentation; and `series`, how
-//! many elements the quotients of the first heaps of a game have.
+//! The commands that make certificates: `solve`, from a code; `solve --infinite`, the whole game or the presentation of
+//! a part whose quotient is infinite; `certify`, from a table in a numbering of one's own, or from a presentation; and
+//! `series`, how many elements the quotients of the first heaps of a game have.
 #![tactic(auto)]
 
 mod certifying;

@@ -28,7 +28,7 @@ pub trait Makes {
             (λ c. IsCertificateOf c quotient.now.said)) };
 }
 
-/// The certificates that `presentation_certificates` makes.
+/// The certificates that `own_quotients` makes.
 pub struct Making;
 
 impl Makes for Making {

@@ -1,7 +1,7 @@
 use Rattle.std.proofs.Common.{◌≡◌, subst}
-use Rattle.opened_infinite.specs.declared.text.AcceptedText.{AcceptedText}
+use Rattle.opened.specs.declared.text.AcceptedText.{AcceptedText}
 use Rattle.infinite_queries.specs.Asked.{TellsOutcome}
-use Rattle.told_answers.specs.Many.{TellAll}
+use Rattle.player.specs.Many.{TellAll}
 use Rattle.infinite_queries.proofs.queries.outcomes.Goals as goal
 
 pub returns-clause-yes : goal.returns-clause-yes
