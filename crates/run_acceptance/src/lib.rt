@@ -12,7 +12,7 @@ mod comparing;
 #[cfg(test)]
 mod failing_calls_tests;
 #[cfg(test)]
-mod kept_checker_tests;
+mod kept_positions_tests;
 #[cfg(test)]
 mod presentation_finder_tests;
 #[cfg(test)]
@@ -28,4 +28,4 @@ mod relations_tests;
 #[cfg(test)]
 mod rows;
 #[cfg(test)]
-mod told_labels_tests;
+mod telling_tests;
