@@ -3,7 +3,7 @@ use Rattle.std.specs.Prelude.{IfOk, IfErr}
 use Rattle.answers.specs.InfiniteRefusals.{refused}
 use Rattle.presented_claims.specs.Presents.{Presents}
 use Rattle.presented_checker.specs.Refused.{Fits, IsOrder}
-use Rattle.presented_checker.proofs.Unrolled.{ranges-made, form-made, accepted-made, refused-made, told-again}
+use Rattle.presented_checker.proofs.UnrolledForms.{ranges-made, form-made, accepted-made, refused-made, told-again}
 use Rattle.presented_checker.proofs.checking.judged_whole.Goals as goal
 
 pub order_of-order-requires-clause-ranges : goal.order_of-order-requires-clause-ranges
