@@ -10,10 +10,20 @@ use Rattle.answers.specs.ByteVerdicts.{ByteVerdict, IsTrueOf, Holds as HoldsOf}
 use Rattle.answers.specs.ByteVerdicts.ByteVerdict.{Yes, Text, No, Outcome, Limit, Memory}
 use Rattle.check_machine.specs.Turns.{verdict}
 use Rattle.verdict_texts.specs.Streams.{AreKnownAs}
-use Rattle.given_quotients.specs.Checks.{Checks, Finds, IsFrontOf, Judges, SaysVerdict}
+use Rattle.given_quotients.specs.Checks.{Checks, Finds, IsFrontOf, IsYes, Judges, SaysVerdict}
 use Rattle.given_quotients.proofs.Lengths.{long_spells_none}
 
 -- ---- what is read
+
+-- What holds of what is read holds of all bytes, if it does so of those that are too many for a text.
+pub of_all : (P : List ℕ → Type 0) (bytes front : List ℕ) → front ≡ take 4194305 bytes
+    → (4194304 < length front → 4194304 < length bytes → P front → P bytes) → P front → P bytes
+of_all P bytes front is longer h = elim (dec_lt 4194305 (length bytes)) [
+  | yes long ↦
+      let cut = ap length is ∙ length-take 4194305 bytes in
+      longer (grind (arith, cut, long)) (omega (arith, long)) h
+  | no short ↦ subst P (is ∙ take_all 4194305 bytes (omega (arith, short))) h
+]
 
 -- all of the bytes, where they are no more than are read
 all_read : (bytes : List ℕ) → length bytes ≤ 4194305 → bytes ≡ take 4194305 bytes
@@ -76,19 +86,19 @@ module _ (laws : (bytes : List ℕ) (limit : ℕ) → IsTrueOf bytes limit (verd
   -- the front has the verdict of all
   pub same_verdict : (bytes front : List ℕ) (limit : ℕ) → front ≡ take 4194305 bytes
       → verdict front limit ≡ verdict bytes limit
-  same_verdict bytes front limit is = elim (dec_lt 4194305 (length bytes)) [
-    | yes long ↦
-        let cut = ap length is ∙ length-take 4194305 bytes in
-        long_is_text front limit (grind (arith, cut, long))
-        ∙ sym (long_is_text bytes limit (omega (arith, long)))
-    | no short ↦
-        ap (λ (b : List ℕ). verdict b limit) (is ∙ take_all 4194305 bytes (omega (arith, short)))
-  ]
+  same_verdict bytes front limit is =
+      of_all (λ (b : List ℕ). verdict front limit ≡ verdict b limit) bytes front is
+      (λ long more _. long_is_text front limit long ∙ sym (long_is_text bytes limit more)) refl
 
-  says : (bytes front : List ℕ) (limit : ℕ) (text : List ℕ) (accepted : Bool)
+  pub yes_all : (bytes front : List ℕ) (limit : ℕ) (c : Certificate)
+      → verdict front limit ≡ verdict bytes limit → IsYes front limit c → IsYes bytes limit c
+  yes_all bytes front limit c same said =
+      let is = sym same ∙ said.1 in (subst (IsTrueOf bytes limit) is (laws bytes limit).0, is)
+
+  pub says_all : (bytes front : List ℕ) (limit : ℕ) (text : List ℕ) (accepted : Bool)
       → verdict front limit ≡ verdict bytes limit → SaysVerdict front limit text accepted
       → SaysVerdict bytes limit text accepted
-  says bytes front limit text accepted same said = (
+  says_all bytes front limit text accepted same said = (
     record {
       answer = said.0.answer;
       text = said.0.text;
@@ -100,23 +110,18 @@ module _ (laws : (bytes : List ℕ) (limit : ℕ) → IsTrueOf bytes limit (verd
     said.2,
   )
 
-  judges : {A : Type 0} (bytes front : List ℕ) (limit : ℕ) (q : Result Certificate (Vec ℕ A))
-      → verdict front limit ≡ verdict bytes limit → Judges front limit q → Judges bytes limit q
-  judges bytes front limit (Ok c) same judged =
-      let is = sym same ∙ judged.1 in (subst (IsTrueOf bytes limit) is (laws bytes limit).0, is)
-  judges bytes front limit (Err text) same judged =
-      says bytes front limit text.items false same judged
-
   -- what is said of the front is said of all
   pub checks_all : (Are : List ℕ → Type 0) (front : List ℕ) (limit : ℕ) (text : List ℕ)
       (accepted : Bool) → IsFrontOf Are front → SaysVerdict front limit text accepted
       → Checks Are limit text accepted
-  checks_all Are front limit text accepted given said =
-      (given.0, given.1, says given.0 front limit text accepted (same_verdict given.0 front limit given.2) said)
+  checks_all Are front limit text accepted (bytes, are, is) said =
+      (bytes, are, says_all bytes front limit text accepted (same_verdict bytes front limit is) said)
 
   -- what is found by the front is found by all
   pub finds_all : {A : Type 0} (Are : List ℕ → Type 0) (front : List ℕ) (limit : ℕ)
       (q : Result Certificate (Vec ℕ A)) → IsFrontOf Are front → Judges front limit q
       → Finds Are limit q
-  finds_all Are front limit q given judged =
-      (given.0, given.1, judges given.0 front limit q (same_verdict given.0 front limit given.2) judged)
+  finds_all Are front limit (Ok c) (bytes, are, is) judged =
+      (bytes, are, yes_all bytes front limit c (same_verdict bytes front limit is) judged)
+  finds_all Are front limit (Err text) given judged =
+      checks_all Are front limit text.items false given judged

@@ -1,5 +1,5 @@
 mod Answered
-mod Fronts
-mod CheckAnswered
-mod Given
+pub mod Fronts
+pub mod Given
 mod Lengths
+pub mod Says

@@ -8,6 +8,7 @@ use Rattle.answers.specs.ByteVerdicts.ByteVerdict.{Yes}
 use Rattle.check_machine.specs.Turns.{verdict}
 use Rattle.verdict_texts.specs.Streams.{AreKnownAs, IsDueText}
 use Rattle.verdict_texts.specs.declared.stream.TheConstants.{MOST_BYTES}
+use Rattle.given_quotients.specs.Says.{FindsBy}
 use Rattle.command_results.specs.Stops.{IsFileCause}
 use Rattle.command_results.specs.declared.stop.Stop.{Stop}
 use Rattle.command_results.specs.declared.stop.Stop.TheVariants.{Read, Memory}
@@ -51,7 +52,7 @@ Judges bytes limit (Err text) = SaysVerdict bytes limit text.items false
 
 -- the same of the bytes that are given
 abbrev pub Finds : {A : Type 0} → (List ℕ → Type 0) → ℕ → Result Certificate (Vec ℕ A) → Type 0
-Finds Are limit quotient = (bytes : List ℕ) × Are bytes × Judges bytes limit quotient
+Finds Are limit found = FindsBy (Certifies Are limit) (λ text. Checks Are limit text false) found
 
 -- ---- why nothing is said
 

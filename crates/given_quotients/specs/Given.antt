@@ -7,6 +7,7 @@ use Rattle.whole_checker.specs.Solved.{IsSolved}
 use Rattle.given_quotients.specs.Checks.{IsYes, SaysVerdict}
 use Rattle.presented_text.specs.Spelling.{SpellsPresented}
 use Rattle.presented_checker.specs.Refused.{Kept, IsRight}
+use Rattle.given_quotients.specs.Says.{FindsBy}
 use Rattle.given_quotients.specs.Told.{BeginsWhole, BeginsPresented, TellsRefused, TellsWhole}
 use Rattle.given_quotients.specs.declared.giving.Quotient.{Quotient}
 use Rattle.given_quotients.specs.declared.giving.Quotient.TheVariants.{Finite, Whole, Presented}
@@ -47,4 +48,4 @@ abbrev pub Refuses : (List ℕ → Type 0) → ℕ → List ℕ → Type 0
 Refuses Are limit text = (bytes : List ℕ) × Are bytes × RefusesBy bytes limit text
 
 abbrev pub FindsQuotient : {A : Type 0} → (List ℕ → Type 0) → ℕ → Result Quotient (Vec ℕ A) → Type 0
-FindsQuotient Are limit found = (bytes : List ℕ) × Are bytes × JudgesQuotient bytes limit found
+FindsQuotient Are limit found = FindsBy (Gives Are limit) (Refuses Are limit) found

@@ -11,7 +11,11 @@ use streams::{Folder, Source};
 use verdict_texts::verdict_text;
 
 /// Checks the bytes under the limit: their quotient, or else the text of a no.
-fn judged(alloc: Global, bytes: &[u8], limit: u32) -> Result<Result<Certified, Vec<u8>>, Memory>
+pub(crate) fn judged_finite(
+    alloc: Global,
+    bytes: &[u8],
+    limit: u32,
+) -> Result<Result<Certified, Vec<u8>>, Memory>
     ensures { IfOk result (Judges bytes.now limit) }
 {
     let refusal = match check(alloc, bytes, limit) {
@@ -48,6 +52,6 @@ pub fn certified<'a, F: Folder, S: Source>(
 {
     verdicts_are_true();
     let bytes = given_bytes(alloc, file, folder, input)?;
-    let found = judged(alloc, &bytes, limit)?;
+    let found = judged_finite(alloc, &bytes, limit)?;
     Ok(found)
 }

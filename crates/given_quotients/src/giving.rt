@@ -1,19 +1,19 @@
 //! Quotients out of files.
 ghost use Rattle.std.specs.Prelude.{◌≡◌, false, IfOk, IfErr, is_none, is_some, option_map};
-ghost use Rattle.given_quotients.specs.Checks.{AreGiven, IsGivenCause, Judges, failed};
+ghost use Rattle.given_quotients.specs.Checks.{AreGiven, IsGivenCause, failed};
 ghost use Rattle.given_quotients.specs.Given.{FindsQuotient, JudgesQuotient};
 
+use crate::bytes::given_bytes;
+use crate::certifying::judged_finite;
 use crate::presented::{begins_presented, judged_presented};
 use crate::whole::{begins_whole, judged_whole};
-use crate::{fronts_decide, given_bytes};
 use allocation::Memory;
 use answers::Certified;
-use checker::{check, verdicts_are_true};
+use checker::verdicts_are_true;
 use command_results::Stop;
 use presented_checker::PresentedQuotient;
 use std::alloc::Global;
 use streams::{Folder, Source};
-use verdict_texts::verdict_text;
 use whole_checker::WholeGame;
 
 /// A quotient that a text gives.
@@ -25,22 +25,6 @@ pub enum Quotient {
     Whole(WholeGame),
     /// One that generators and relations present.
     Presented(PresentedQuotient),
-}
-
-/// Checks the bytes under the limit: their finite quotient, or else the text of a no.
-fn judged_finite(
-    alloc: Global,
-    bytes: &[u8],
-    limit: u32,
-) -> Result<Result<Certified, Vec<u8>>, Memory>
-    ensures { IfOk result (Judges bytes.now limit) }
-{
-    let refusal = match check(alloc, bytes, limit) {
-        Ok(certified) => return Ok(Ok(certified)),
-        Err(refusal) => refusal,
-    };
-    let text = verdict_text(alloc, Err(&refusal))?;
-    Ok(Err(text.into_bytes()))
 }
 
 /// Checks the bytes: as a text of a whole game, or as a presentation, by their first word, or else as a certificate.
@@ -90,7 +74,6 @@ pub fn quotient_of<'a, F: Folder, S: Source>(
         → folder.new ≡ folder.old }
 {
     verdicts_are_true();
-    fronts_decide();
     let bytes = given_bytes(alloc, file, folder, input)?;
     let found = judged(alloc, &bytes, limit)?;
     Ok(found)

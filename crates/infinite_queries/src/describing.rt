@@ -67,21 +67,6 @@ fn text_in(alloc: Global, shown: &AcceptedText, output: u32) -> Result<Vec<u8>, 
     }
 }
 
-/// The text that is asked for of what is opened; or the status.
-fn text_by(alloc: Global, opened: &mut OpenedInfinite, output: u32) -> Result<Vec<u8>, u32>
-    ensures told { IfOk result (λ t. IsOpenedText opened.old.handle.value output t.items) }
-    ensures no { IfErr result (λ s. s ≢ 0 × s ≢ 14) }
-    ensures why { IfErr result (IsOpenedUntold opened.old.handle.value output) }
-    ensures same { opened.new.handle.value ≡ opened.old.handle.value }
-{
-    let Some(quotient) = opened.take(alloc) else {
-        return Err(NOT_OPEN);
-    };
-    let text = text_in(alloc, quotient.shown(), output);
-    opened.put(alloc, quotient);
-    text
-}
-
 /// Tells how many bytes there are, and puts them in front, where there is room for them.
 pub fn hand_over(bytes: &[u8], told: &mut [u8], count: &mut u64) -> u32
     ensures put { result ≡ 0 → take count.new told.new ≡ bytes.now }
@@ -116,7 +101,12 @@ pub fn describe(
         × IsOpenedText opened.old.handle.value output text × (count.new ≡ length text) }
     ensures untold { result ≢ 0 → result ≢ 14 → count.new ≡ count.old }
 {
-    match text_by(alloc, opened, output) {
+    let Some(quotient) = opened.take(alloc) else {
+        return NOT_OPEN;
+    };
+    let text = text_in(alloc, quotient.shown(), output);
+    opened.put(alloc, quotient);
+    match text {
         Ok(text) => hand_over(&text, told, count),
         Err(status) => status,
     }
@@ -132,24 +122,6 @@ fn code_in(alloc: Global, shown: &AcceptedText) -> Result<String, Memory>
     }
 }
 
-/// The code of what is opened, as a text; or the status.
-fn code_by(alloc: Global, opened: &mut OpenedInfinite) -> Result<String, u32>
-    ensures told { IfOk result (λ t. IsOpenedCode opened.old.handle.value (string_bytes t)) }
-    ensures no { IfErr result (λ s. s ≢ 0 × s ≢ 14) }
-    ensures why { IfErr result (IsUnshared opened.old.handle.value) }
-    ensures same { opened.new.handle.value ≡ opened.old.handle.value }
-{
-    let Some(quotient) = opened.take(alloc) else {
-        return Err(NOT_OPEN);
-    };
-    let text = code_in(alloc, quotient.shown());
-    opened.put(alloc, quotient);
-    match text {
-        Ok(text) => Ok(text),
-        Err(Memory) => Err(MEMORY),
-    }
-}
-
 /// Tells the code of what is opened, such as 0.26, and how many bytes it has; where there is no room for them,
 /// how many they are alone.
 pub fn code(alloc: Global, opened: &mut OpenedInfinite, told: &mut [u8], count: &mut u64) -> u32
@@ -162,8 +134,13 @@ pub fn code(alloc: Global, opened: &mut OpenedInfinite, told: &mut [u8], count: 
         × IsOpenedCode opened.old.handle.value text × (count.new ≡ length text) }
     ensures untold { result ≢ 0 → result ≢ 14 → count.new ≡ count.old }
 {
-    match code_by(alloc, opened) {
+    let Some(quotient) = opened.take(alloc) else {
+        return NOT_OPEN;
+    };
+    let text = code_in(alloc, quotient.shown());
+    opened.put(alloc, quotient);
+    match text {
         Ok(text) => hand_over(text.as_bytes(), told, count),
-        Err(status) => status,
+        Err(Memory) => MEMORY,
     }
 }

@@ -1,6 +1,6 @@
 //! What is asked of an infinite quotient that was opened.
 ghost use Rattle.std.specs.List.Sorted.{IsNonDecreasing};
-ghost use Rattle.std.specs.Prelude.{◌≡◌, ◌≢◌, IfOk, IfErr, OnOk, OnErr, IsPermutation, length};
+ghost use Rattle.std.specs.Prelude.{◌≡◌, ◌≢◌, IsPermutation, length};
 ghost use Rattle.infinite_queries.specs.Asked.{AreNoAnswers, IsNoAnswer, IsNoAnswerToMany, TellsAnswer, TellsOutcome};
 ghost use Rattle.opened.specs.Texts.{kind_of, order_of};
 ghost use Rattle.player.specs.Asked.{IsOpened, IsUnopened};
@@ -44,20 +44,6 @@ pub fn order(alloc: Global, opened: &mut OpenedInfinite, told: &mut u64) -> u32
     DONE
 }
 
-/// The outcome of the position of the heaps, by what is opened.
-fn outcome_by(alloc: Global, opened: &mut OpenedInfinite, heaps: &[u64]) -> Result<u32, u32>
-    ensures yes { IfOk result (λ n. IsOpened opened.old.handle.value (TellsOutcome heaps.now n)) }
-    ensures no { IfErr result (λ s. s ≢ 0 × IsNoAnswer opened.old.handle.value heaps.now s) }
-    ensures same { opened.new.handle.value ≡ opened.old.handle.value }
-{
-    let Some(quotient) = opened.take(alloc) else {
-        return Err(NOT_OPEN);
-    };
-    let told = outcome_in(quotient.shown(), heaps);
-    opened.put(alloc, quotient);
-    told
-}
-
 /// Tells who wins the position of the heaps under misère play: 0 where the player who has just moved
 /// does, and 1 where the next one does. It takes no memory.
 pub fn outcome(alloc: Global, opened: &mut OpenedInfinite, heaps: &[u64], told: &mut u32) -> u32
@@ -66,34 +52,18 @@ pub fn outcome(alloc: Global, opened: &mut OpenedInfinite, heaps: &[u64], told: 
     ensures same { opened.new.handle.value ≡ opened.old.handle.value }
     ensures stays { result ≢ 0 → told.new ≡ told.old }
 {
-    match outcome_by(alloc, opened, heaps) {
+    let Some(quotient) = opened.take(alloc) else {
+        return NOT_OPEN;
+    };
+    let made = outcome_in(quotient.shown(), heaps);
+    opened.put(alloc, quotient);
+    match made {
         Ok(number) => {
             *told = number;
             DONE
         }
         Err(status) => status,
     }
-}
-
-/// The answer in the position of the heaps, by what is opened. They stand rising afterwards.
-fn answer_by(
-    alloc: Global,
-    opened: &mut OpenedInfinite,
-    heaps: &mut [u64],
-) -> Result<MisereAnswer, u32>
-    ensures yes { IfOk result (λ n. IsOpened opened.old.handle.value (TellsAnswer heaps.old n)) }
-    ensures heaps { OnOk result (IsPermutation heaps.old heaps.new) }
-    ensures rising { OnOk result (IsNonDecreasing heaps.new) }
-    ensures no { IfErr result (λ s. s ≢ 0 × IsNoAnswer opened.old.handle.value heaps.old s) }
-    ensures same { opened.new.handle.value ≡ opened.old.handle.value }
-    ensures stays { OnErr result (heaps.new ≡ heaps.old) }
-{
-    let Some(quotient) = opened.take(alloc) else {
-        return Err(NOT_OPEN);
-    };
-    let told = answer_in(quotient.shown(), heaps);
-    opened.put(alloc, quotient);
-    told
 }
 
 /// Tells what to do in the position of the heaps: the first winning move, where there is one. Then
@@ -111,7 +81,12 @@ pub fn answer(
     ensures same { opened.new.handle.value ≡ opened.old.handle.value }
     ensures stays { result ≢ 0 → told.new ≡ told.old × heaps.new ≡ heaps.old }
 {
-    match answer_by(alloc, opened, heaps) {
+    let Some(quotient) = opened.take(alloc) else {
+        return NOT_OPEN;
+    };
+    let made = answer_in(quotient.shown(), heaps);
+    opened.put(alloc, quotient);
+    match made {
         Ok(made) => {
             *told = made;
             DONE

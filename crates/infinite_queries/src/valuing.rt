@@ -82,21 +82,6 @@ fn value_in(alloc: Global, shown: &AcceptedText, heaps: &[u64]) -> Result<Vec<u8
     }
 }
 
-/// The element of the position of the heaps by what is opened; or the status.
-fn value_by(alloc: Global, opened: &mut OpenedInfinite, heaps: &[u64]) -> Result<Vec<u8>, u32>
-    ensures told { IfOk result (λ t. IsOpenedValue opened.old.handle.value heaps.now t.items) }
-    ensures no { IfErr result (λ s. s ≢ 0 × s ≢ 14) }
-    ensures why { IfErr result (IsOpenedUnvalued opened.old.handle.value heaps.now) }
-    ensures same { opened.new.handle.value ≡ opened.old.handle.value }
-{
-    let Some(quotient) = opened.take(alloc) else {
-        return Err(NOT_OPEN);
-    };
-    let text = value_in(alloc, quotient.shown(), heaps);
-    opened.put(alloc, quotient);
-    text
-}
-
 /// Tells the element of the position of the heaps by a presentation that is opened: the normal form of its word, such as
 /// ab^2, or 1. Tells how many bytes it has, too; where there is no room for them, how many they are alone.
 pub fn value(
@@ -117,7 +102,12 @@ pub fn value(
         × IsOpenedValue opened.old.handle.value heaps.now text × (count.new ≡ length text) }
     ensures untold { result ≢ 0 → result ≢ 14 → count.new ≡ count.old }
 {
-    match value_by(alloc, opened, heaps) {
+    let Some(quotient) = opened.take(alloc) else {
+        return NOT_OPEN;
+    };
+    let text = value_in(alloc, quotient.shown(), heaps);
+    opened.put(alloc, quotient);
+    match text {
         Ok(text) => hand_over(&text, told, count),
         Err(status) => status,
     }

@@ -1,10 +1,5 @@
-pub mod WholeLists
-pub mod WholeLines
-pub mod WholeLatex
-pub mod WholeJson
-pub mod Whole
 pub mod Lists
-pub mod Plain
-pub mod Latex
+pub mod Whole
+pub mod Lines
 pub mod Json
 pub mod Described

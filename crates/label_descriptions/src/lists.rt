@@ -1,13 +1,13 @@
-//! Lists of letters, words and relations in texts.
-ghost use Rattle.std.specs.Prelude.{◌≡◌, ◌≤◌, ◌<◌, ◌+◌, ◌++◌, IfOk, [], None, encode_utf8, length, slice_index_or};
+//! Lists of a presentation in texts.
+ghost use Rattle.std.specs.Prelude.{◌≡◌, ◌≤◌, ◌<◌, ◌+◌, ◌++◌, IfOk, length};
 ghost use Rattle.std.specs.String.{string_bytes};
 ghost use Rattle.presentations.specs.declared.TheConstants.{LETTERS};
-ghost use Rattle.label_descriptions.specs.Lists.{front, heap_word, heap_words_text, letters_text, relation_text, relations_text, words_text};
-ghost use Rattle.relations.specs.Printed.{word_text};
+ghost use Rattle.label_descriptions.specs.Lists.{before, before_cycle, before_heap, cycle_pieces, cycle_text, cycles_text, endless, front, generator_text, generators_text, heap_words_text, order_text, relations_text, words_text};
 
 use crate::words::{heap_word, relation_text, word_text};
 use normal_forms::{Exponents, Rule};
 use presentations::LETTERS;
+use presented_text::LetterCycle;
 use relations::Notation;
 use std::alloc::{AllocError, Global};
 
@@ -16,14 +16,6 @@ pub(crate) fn front<'a>(first: &'a str, between: &'a str, k: usize) -> &'a str
     ensures { result.now ≡ front first.now between.now k }
 {
     if k == 0 { first } else { between }
-}
-
-/// Two texts, one behind the other.
-pub(crate) fn both(alloc: Global, first: &str, second: &str) -> Result<String, AllocError>
-    ensures { IfOk result (λ t. string_bytes t ≡ first.now ++ second.now) }
-{
-    let text = format!(in alloc; "{first}{second}")?;
-    Ok(text)
 }
 
 /// Three texts, one behind the other.
@@ -47,50 +39,15 @@ pub(crate) fn name(letter: usize) -> char
     (b'a' + letter as u8) as char
 }
 
-/// A letter behind a text.
-fn letter_text(alloc: Global, front: &str, letter: usize) -> Result<String, AllocError>
-    requires { letter < LETTERS }
-    ensures { IfOk result (λ t. string_bytes t ≡ front.now ++ encode_utf8 (97 + letter)) }
+/// What stands before word or relation `k`.
+fn before(notation: Notation, k: usize) -> &'static str
+    ensures { result.now ≡ before notation k }
 {
-    let name = name(letter);
-    let text = format!(in alloc; "{front}{name}")?;
-    Ok(text)
-}
-
-/// The first letters.
-pub(crate) fn letters_text(
-    alloc: Global,
-    first: &str,
-    between: &str,
-    letters: usize,
-) -> Result<String, AllocError>
-    requires { letters ≤ LETTERS }
-    ensures { IfOk result (λ t. string_bytes t ≡ letters_text first.now between.now letters) }
-{
-    let mut text = String::new(alloc);
-    for k in 0..letters {
-        let item = letter_text(alloc, front(first, between, k), k)?;
-        text.push_str(item.as_str())?;
+    match notation {
+        Notation::Plain => front(" ", ", ", k),
+        Notation::Latex => front("", "$, $", k),
+        Notation::Json => front("", ",", k),
     }
-    Ok(text)
-}
-
-/// A relation behind a text.
-fn relation_item(
-    alloc: Global,
-    notation: Notation,
-    letters: u8,
-    front: &str,
-    rules: &[Rule],
-    k: usize,
-) -> Result<String, AllocError>
-    requires letters { letters ≤ LETTERS }
-    requires k { k < length rules.now }
-    ensures { IfOk result (λ t. string_bytes t
-        ≡ front.now ++ relation_text notation letters (slice_index_or rules.now k ([], []))) }
-{
-    let relation = relation_text(alloc, notation, letters, &rules[k])?;
-    both(alloc, front, relation.as_str())
 }
 
 /// Relations.
@@ -98,38 +55,18 @@ pub(crate) fn relations_text(
     alloc: Global,
     notation: Notation,
     letters: u8,
-    first: &str,
-    between: &str,
     rules: &[Rule],
 ) -> Result<String, AllocError>
     requires { letters ≤ LETTERS }
-    ensures { IfOk result
-        (λ t. string_bytes t ≡ relations_text notation letters first.now between.now rules.now) }
+    ensures { IfOk result (λ t. string_bytes t ≡ relations_text notation letters rules.now (length rules.now)) }
 {
     let mut text = String::new(alloc);
     for k in 0..rules.len() {
-        let item = relation_item(alloc, notation, letters, front(first, between, k), rules, k)?;
-        text.push_str(item.as_str())?;
+        let relation = relation_text(alloc, notation, letters, &rules[k])?;
+        text.push_str(before(notation, k))?;
+        text.push_str(relation.as_str())?;
     }
     Ok(text)
-}
-
-/// A word behind a text.
-fn word_item(
-    alloc: Global,
-    notation: Notation,
-    letters: u8,
-    front: &str,
-    words: &[Exponents],
-    k: usize,
-) -> Result<String, AllocError>
-    requires letters { letters ≤ LETTERS }
-    requires k { k < length words.now }
-    ensures { IfOk result (λ t. string_bytes t
-        ≡ front.now ++ word_text notation letters (slice_index_or words.now k [])) }
-{
-    let word = word_text(alloc, notation, letters, &words[k])?;
-    both(alloc, front, word.as_str())
 }
 
 /// Words.
@@ -137,38 +74,28 @@ pub(crate) fn words_text(
     alloc: Global,
     notation: Notation,
     letters: u8,
-    first: &str,
-    between: &str,
     words: &[Exponents],
 ) -> Result<String, AllocError>
     requires { letters ≤ LETTERS }
-    ensures { IfOk result
-        (λ t. string_bytes t ≡ words_text notation letters first.now between.now words.now) }
+    ensures { IfOk result (λ t. string_bytes t ≡ words_text notation letters words.now (length words.now)) }
 {
     let mut text = String::new(alloc);
     for k in 0..words.len() {
-        let item = word_item(alloc, notation, letters, front(first, between, k), words, k)?;
-        text.push_str(item.as_str())?;
+        let word = word_text(alloc, notation, letters, &words[k])?;
+        text.push_str(before(notation, k))?;
+        text.push_str(word.as_str())?;
     }
     Ok(text)
 }
 
-/// The word of a heap behind a text.
-fn heap_word_item(
-    alloc: Global,
-    notation: Notation,
-    letters: u8,
-    front: &str,
-    words: &[Option<Exponents>],
-    k: usize,
-) -> Result<String, AllocError>
-    requires letters { letters ≤ LETTERS }
-    requires k { k < length words.now }
-    ensures { IfOk result (λ t. string_bytes t
-        ≡ front.now ++ heap_word notation letters (slice_index_or words.now k None)) }
+/// What stands before the word of heap `k`.
+fn before_heap(notation: Notation, k: usize) -> &'static str
+    ensures { result.now ≡ before_heap notation k }
 {
-    let word = heap_word(alloc, notation, letters, &words[k])?;
-    both(alloc, front, word.as_str())
+    match notation {
+        Notation::Plain => " ",
+        Notation::Latex | Notation::Json => before(notation, k),
+    }
 }
 
 /// The words of heaps.
@@ -176,18 +103,147 @@ pub(crate) fn heap_words_text(
     alloc: Global,
     notation: Notation,
     letters: u8,
-    first: &str,
-    between: &str,
     words: &[Option<Exponents>],
 ) -> Result<String, AllocError>
     requires { letters ≤ LETTERS }
     ensures { IfOk result
-        (λ t. string_bytes t ≡ heap_words_text notation letters first.now between.now words.now) }
+        (λ t. string_bytes t ≡ heap_words_text notation letters words.now (length words.now)) }
 {
     let mut text = String::new(alloc);
     for k in 0..words.len() {
-        let item = heap_word_item(alloc, notation, letters, front(first, between, k), words, k)?;
+        let word = heap_word(alloc, notation, letters, &words[k])?;
+        text.push_str(before_heap(notation, k))?;
+        text.push_str(word.as_str())?;
+    }
+    Ok(text)
+}
+
+/// The cycle of a letter, of its numbers.
+fn cycle_pieces(
+    alloc: Global,
+    notation: Notation,
+    name: char,
+    start: u16,
+    period: u16,
+) -> Result<String, AllocError>
+    ensures { IfOk result (λ t. string_bytes t ≡ cycle_pieces notation name start period) }
+{
+    let text = match notation {
+        Notation::Plain => format!(in alloc; "{name} {start}:{period}")?,
+        Notation::Latex => format!(in alloc;
+            "along ${name}$ from exponent ${start}$ with period ${period}$"
+        )?,
+        Notation::Json => format!(in alloc; "\"{name}\":[{start},{period}]")?,
+    };
+    Ok(text)
+}
+
+/// The cycle of a letter.
+fn cycle_text(
+    alloc: Global,
+    notation: Notation,
+    letter: usize,
+    cycle: &LetterCycle,
+) -> Result<String, AllocError>
+    requires { letter < LETTERS }
+    ensures { IfOk result (λ t. string_bytes t ≡ cycle_text notation letter cycle.now) }
+{
+    cycle_pieces(alloc, notation, name(letter), cycle.start, cycle.period)
+}
+
+/// What stands before the cycle of a letter.
+fn before_cycle(notation: Notation, letter: usize) -> &'static str
+    ensures { result.now ≡ before_cycle notation letter }
+{
+    match notation {
+        Notation::Plain => " ",
+        Notation::Latex => front(" ", ", ", letter),
+        Notation::Json => front("", ",", letter),
+    }
+}
+
+/// The cycles of all letters.
+pub(crate) fn cycles_text(
+    alloc: Global,
+    notation: Notation,
+    cycles: &[LetterCycle],
+) -> Result<String, AllocError>
+    requires { length cycles.now ≤ LETTERS }
+    ensures { IfOk result (λ t. string_bytes t ≡ cycles_text notation cycles.now (length cycles.now)) }
+{
+    let mut text = String::new(alloc);
+    for k in 0..cycles.len() {
+        let cycle = cycle_text(alloc, notation, k, &cycles[k])?;
+        text.push_str(before_cycle(notation, k))?;
+        text.push_str(cycle.as_str())?;
+    }
+    Ok(text)
+}
+
+/// A letter and its heap, behind what stands before it.
+fn generator_text(
+    alloc: Global,
+    notation: Notation,
+    letter: usize,
+    heap: u16,
+) -> Result<String, AllocError>
+    requires { letter < LETTERS }
+    ensures { IfOk result (λ t. string_bytes t ≡ generator_text notation letter heap) }
+{
+    let (name, front) = (name(letter), front("", ",", letter));
+    let text = match notation {
+        Notation::Plain => format!(in alloc; " {name}={heap}")?,
+        Notation::Latex => format!(in alloc; " ${name}=\\Phi({heap})$")?,
+        Notation::Json => format!(in alloc; "{front}\"{name}\":{heap}")?,
+    };
+    Ok(text)
+}
+
+/// All letters and their heaps.
+pub(crate) fn generators_text(
+    alloc: Global,
+    notation: Notation,
+    heaps: &[u16],
+) -> Result<String, AllocError>
+    requires { length heaps.now ≤ LETTERS }
+    ensures { IfOk result
+        (λ t. string_bytes t ≡ generators_text notation heaps.now (length heaps.now)) }
+{
+    let mut text = String::new(alloc);
+    for k in 0..heaps.len() {
+        let item = generator_text(alloc, notation, k, heaps[k])?;
         text.push_str(item.as_str())?;
     }
+    Ok(text)
+}
+
+/// What stands for infinitely many elements.
+fn endless(notation: Notation) -> &'static str
+    ensures { result.now ≡ endless notation }
+{
+    match notation {
+        Notation::Plain => "infinite",
+        Notation::Latex => "\\infty",
+        Notation::Json => "null",
+    }
+}
+
+/// How many elements there are, if they are finitely many.
+pub(crate) fn order_text(
+    alloc: Global,
+    notation: Notation,
+    order: Option<usize>,
+) -> Result<String, AllocError>
+    ensures { IfOk result (λ t. string_bytes t ≡ order_text notation order) }
+{
+    let Some(order) = order else {
+        let sign = endless(notation);
+        let text = format!(in alloc; "{sign}")?;
+        return Ok(text);
+    };
+    let text = match notation {
+        Notation::Plain => format!(in alloc; "order {order}")?,
+        Notation::Latex | Notation::Json => format!(in alloc; "{order}")?,
+    };
     Ok(text)
 }

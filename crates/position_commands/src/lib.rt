@@ -2,19 +2,19 @@
 //! two apart; by finite quotients, those of whole games, and presentations.
 #![tactic(auto)]
 
+mod answer_lines;
 mod asking;
 mod lines;
 mod many;
-mod play_lines;
 mod playing;
 mod quotients;
 mod telling;
 mod valuing;
 mod wins;
 
+pub use answer_lines::answer_text;
 pub use asking::all_wins;
 pub use many::{no_position, play_lines};
-pub use play_lines::answer_text;
 pub use playing::{beyond, play, position_of, presented_played, whole_played};
 pub use telling::apart;
 pub use valuing::value;

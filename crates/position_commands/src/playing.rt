@@ -7,7 +7,7 @@ ghost use Rattle.label_players.specs.Plays.{SpeaksOf as HasWordsOf};
 ghost use Rattle.position_commands.specs.PlayLines.{beyond_line};
 ghost use Rattle.position_commands.specs.Plays.{AnswersIn, AnswersPresented, AnswersWhole, IsPlayCause, IsPositionCause, Plays, PlaysFinite, PlaysFound, PlaysIn, PlaysPresented};
 
-use crate::play_lines::{answer_text, beyond_text};
+use crate::answer_lines::{answer_text, beyond_text};
 use answers::Certified;
 use command_results::{Said, Stop};
 use given_quotients::{Quotient, quotient_of};

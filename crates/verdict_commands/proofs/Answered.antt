@@ -4,7 +4,7 @@ use Rattle.positions.specs.Text.{IsTextOf}
 use Rattle.command_results.specs.declared.said.Said.{Said}
 use Rattle.position_commands.specs.Plays.{IsNoPosition}
 use Rattle.verdict_commands.specs.Plays.{PlaysIn}
-use Rattle.verdict_commands.specs.declared.infinite.ShownText.{ShownText}
+use Rattle.verdict_commands.specs.declared.endless.ShownText.{ShownText}
 use Rattle.verdict_commands.specs.Many.{AnswersLine}
 use Rattle.verdict_commands.specs.Many.AnswersLine.{InPosition}
 

@@ -7,7 +7,7 @@ use Rattle.verdict_commands.specs.Checks.{ChecksEither, FindsInfinite}
 use Rattle.verdict_commands.specs.Many.{AnswersLine, PlaysInfiniteLines}
 use Rattle.verdict_commands.specs.Many.PlaysInfiniteLines.{Shown, Unshown}
 use Rattle.verdict_commands.specs.Plays.{PlaysFound, PlaysInfinite}
-use Rattle.verdict_commands.specs.declared.infinite.ShownText.{ShownText}
+use Rattle.verdict_commands.specs.declared.endless.ShownText.{ShownText}
 
 pub plays_found : {A : Type 0} (Are : List ℕ → Type 0) (position : List ℕ) (q : Result ShownText (Vec ℕ A))
     (X text : List ℕ) (succeeds : Bool) → FindsInfinite Are q → IsTextOf position X

@@ -12,8 +12,8 @@ use Rattle.given_quotients.specs.Told.TellsWhole.{Solved}
 use Rattle.verdict_commands.specs.Checks.{ChecksEither, FindsInfinite, JudgesInfinite, ShowsBy, found_line}
 use Rattle.verdict_commands.specs.Shown.{ShowsFound, ShowsInfinite}
 use Rattle.verdict_commands.specs.Told.{TellsEither, TellsEndless}
-use Rattle.verdict_commands.specs.declared.infinite.ShownText.{ShownText}
-use Rattle.verdict_commands.specs.declared.infinite.ShownText.TheVariants.{Whole, Presented}
+use Rattle.verdict_commands.specs.declared.endless.ShownText.{ShownText}
+use Rattle.verdict_commands.specs.declared.endless.ShownText.TheVariants.{Whole, Presented}
 use Rattle.requests.specs.declared.plans.Layout.{Layout}
 use Rattle.verdict_commands.specs.Told.TellsEndless.{Infinite, Finite, Refused}
 use Rattle.presented_checker.specs.Refused.{Kept as Presentation}

@@ -7,8 +7,8 @@ use Rattle.presented_checker.specs.Refused.{Kept, IsRight}
 use Rattle.verdict_commands.specs.PresentedTold.{presented_line}
 use Rattle.given_quotients.specs.Told.{BeginsWhole, BeginsPresented, whole_line}
 use Rattle.verdict_commands.specs.Told.{TellsEither, TellsEndless}
-use Rattle.verdict_commands.specs.declared.infinite.ShownText.{ShownText}
-use Rattle.verdict_commands.specs.declared.infinite.ShownText.TheVariants.{Whole, Presented}
+use Rattle.verdict_commands.specs.declared.endless.ShownText.{ShownText}
+use Rattle.verdict_commands.specs.declared.endless.ShownText.TheVariants.{Whole, Presented}
 
 -- the text of a true answer to the bytes that are given, and whether that is a yes
 abbrev pub ChecksEither : (List ℕ → Type 0) → List ℕ → Bool → Type 0

@@ -6,7 +6,7 @@ use Rattle.command_results.specs.declared.lines.TheConstants.{LARGEST_INPUT}
 use Rattle.position_commands.specs.PlayLines.{no_position_line}
 use Rattle.position_commands.specs.Plays.{IsNoPosition}
 use Rattle.verdict_commands.specs.Checks.{ChecksEither, Shows}
-use Rattle.verdict_commands.specs.declared.infinite.ShownText.{ShownText}
+use Rattle.verdict_commands.specs.declared.endless.ShownText.{ShownText}
 use Rattle.verdict_commands.specs.Plays.{PlaysIn}
 
 -- What is said of a line, and whether it has an answer: what is said in its position, or that it is

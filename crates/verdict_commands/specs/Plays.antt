@@ -3,8 +3,8 @@ use Rattle.std.specs.Prelude.{◌≡◌, ◌⊎◌, ℕ, Bool, true, false, List
 use Rattle.positions.specs.Text.{IsTextOf}
 use Rattle.position_commands.specs.Plays.{AnswersWhole, PlaysPresented}
 use Rattle.verdict_commands.specs.Checks.{ChecksEither, Shows}
-use Rattle.verdict_commands.specs.declared.infinite.ShownText.{ShownText}
-use Rattle.verdict_commands.specs.declared.infinite.ShownText.TheVariants.{Whole, Presented}
+use Rattle.verdict_commands.specs.declared.endless.ShownText.{ShownText}
+use Rattle.verdict_commands.specs.declared.endless.ShownText.TheVariants.{Whole, Presented}
 
 -- what is said in the position by what a text shows; a whole game speaks of each
 abbrev pub PlaysIn : ShownText → List ℕ → List ℕ → Bool → Type 0

@@ -7,8 +7,8 @@ use Rattle.label_descriptions.specs.declared.whole_describing.Output.TheVariants
 use Rattle.label_descriptions.specs.Whole.{IsWholeText}
 use Rattle.label_descriptions.specs.Described.{presented_text_for}
 use Rattle.verdict_commands.specs.Checks.{ChecksEither, Shows}
-use Rattle.verdict_commands.specs.declared.infinite.ShownText.{ShownText}
-use Rattle.verdict_commands.specs.declared.infinite.ShownText.TheVariants.{Whole, Presented}
+use Rattle.verdict_commands.specs.declared.endless.ShownText.{ShownText}
+use Rattle.verdict_commands.specs.declared.endless.ShownText.TheVariants.{Whole, Presented}
 
 -- for whom the text is
 abbrev pub output_for : Layout → Output

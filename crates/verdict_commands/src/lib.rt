@@ -4,16 +4,16 @@
 //! |---|---|
 //! | `verifying` | the verdict on a text of any kind |
 //! | `presented` | what is said of a presentation |
-//! | `infinite`, `showing`, `playing`, `many` | what is said of a text of a whole game, or of an infinite quotient, and the answers in positions by each |
+//! | `endless`, `showing`, `playing`, `many` | what is said of a text of a whole game, or of an infinite quotient, and the answers in positions by each |
 //! | `tails` | whether the whole game of a partial certificate is normal play beyond some heap |
 //! | `explaining`, `stops`, `lines` | what kind of text a file has, or why it is none |
 //! | `words`, `faults`, `codes`, `sizes` | why a text is no code, or no position |
 #![tactic(auto)]
 
 mod codes;
+mod endless;
 mod explaining;
 mod faults;
-mod infinite;
 mod kinds;
 mod laws;
 mod lines;
@@ -28,9 +28,9 @@ mod verifying;
 mod words;
 
 pub use codes::code_fault;
+pub use endless::{ShownText, infinite, said_of_bytes};
 pub use explaining::explain;
 pub use faults::{WrittenCodeFault, WrittenPositionFault};
-pub use infinite::{ShownText, infinite, said_of_bytes};
 pub use kinds::Kind;
 pub use laws::{faults_refuse_codes, faults_refuse_positions};
 pub use many::play_infinite_lines;

@@ -5,7 +5,7 @@ ghost use Rattle.command_results.specs.Lines.{AnswersLines, AreLinesOf};
 ghost use Rattle.verdict_commands.specs.Many.{AnswersLine, PlaysInfiniteLines};
 ghost use Rattle.position_commands.specs.Many.{AreFileOf, IsPlayLinesCause};
 
-use crate::infinite::{ShownText, found};
+use crate::endless::{ShownText, found};
 use crate::playing::played;
 use command_results::{Said, Stop, first_line, input_lines};
 use position_commands::no_position;

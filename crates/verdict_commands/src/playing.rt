@@ -4,7 +4,7 @@ ghost use Rattle.given_quotients.specs.Checks.{AreGiven, failed};
 ghost use Rattle.verdict_commands.specs.Plays.{PlaysFound, PlaysIn, PlaysInfinite};
 ghost use Rattle.position_commands.specs.Plays.{IsPlayCause};
 
-use crate::infinite::{ShownText, found};
+use crate::endless::{ShownText, found};
 use command_results::{Said, Stop};
 use position_commands::{position_of, presented_played, whole_played};
 use positions::Position;

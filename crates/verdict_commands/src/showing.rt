@@ -5,7 +5,7 @@ ghost use Rattle.label_descriptions.specs.Whole.{IsWholeText};
 ghost use Rattle.verdict_commands.specs.Shown.{ShowsFound, ShowsInfinite, output_for};
 ghost use Rattle.label_descriptions.specs.Described.{presented_text_for};
 
-use crate::infinite::{ShownText, found};
+use crate::endless::{ShownText, found};
 use allocation::Memory;
 use command_results::{Said, Stop};
 use label_descriptions::{Output, presented_text, whole_text};

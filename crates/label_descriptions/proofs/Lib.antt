@@ -1,2 +1,0 @@
-mod Next
-mod Same

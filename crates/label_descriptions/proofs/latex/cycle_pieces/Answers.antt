@@ -1,5 +1,0 @@
-use Rattle.std.proofs.Common.{refl, append_assoc}
-use Rattle.label_descriptions.proofs.latex.cycle_pieces.Goals as goal
-
-pub returns : goal.returns
-returns c = simp append_assoc (rw (c.in_ok-text.ensures.ok) refl)

@@ -1,5 +1,0 @@
-use Rattle.std.proofs.Common.{rules}
-use Rattle.position_commands.proofs.play_lines.answer_text.Goals as goal
-
-pub returns-in-Lost : goal.returns-in-Lost
-returns-in-Lost c = search rules
