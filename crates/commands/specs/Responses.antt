@@ -8,13 +8,11 @@ use Rattle.command_results.specs.Lines.{AreLinesOf}
 use Rattle.description_commands.specs.Compared.{Compares, left_behind}
 use Rattle.description_commands.specs.Described.{Describes, form_of}
 use Rattle.verdict_commands.specs.Explained.{ExplainsGiven}
-use Rattle.verdict_commands.specs.Checks.{ChecksEither}
-use Rattle.verdict_commands.specs.Many.{PlaysInfiniteLines}
-use Rattle.verdict_commands.specs.Plays.{PlaysInfinite}
+use Rattle.verdict_commands.specs.Checks.{ChecksInfinite, PlaysInfinite, PlaysInfiniteLines}
 use Rattle.verdict_commands.specs.Shown.{ShowsInfinite}
 use Rattle.position_commands.specs.Many.{AreFileOf, PlaysLines}
-use Rattle.position_commands.specs.Plays.{Plays}
-use Rattle.position_commands.specs.Said.{AsksOfTwo, AsksValue, AsksWins}
+use Rattle.position_commands.specs.Said.{Asks, AsksOfTwo}
+use Rattle.position_commands.specs.declared.asking.Question.TheVariants as question
 use Rattle.description_commands.specs.Presented.{Presents}
 use Rattle.requests.specs.Requests.{Request}
 use Rattle.requests.specs.Requests.Request.{Check, Solve, SolveMany, SolveLines, Series, Show, Tail, Describe, Play, PlayLines, Present, Catalogue, Desk}
@@ -53,13 +51,13 @@ Says input before after (Tail file limit) text succeeds =
     Tails (AreGiven input before file) limit text succeeds
 Says input before after (Describe file output basis limit) text succeeds = ⊥
 Says input before after (Play file position limit) text succeeds =
-    Plays (AreGiven input before file) limit position text succeeds
+    Asks question.Play (AreGiven input before file) limit position text succeeds
 Says input before after (PlayLines file limit) text succeeds =
     PlaysLines (AreFileOf before file) limit (AreLinesOf input) text succeeds
 Says input before after (Wins file position limit) text succeeds =
-    AsksWins (AreGiven input before file) limit position text succeeds
+    Asks question.Wins (AreGiven input before file) limit position text succeeds
 Says input before after (Value file position limit) text succeeds =
-    AsksValue (AreGiven input before file) limit position text succeeds
+    Asks question.Value (AreGiven input before file) limit position text succeeds
 Says input before after (Apart file first second limit) text succeeds =
     AsksOfTwo (AreGiven input before file) limit first second text succeeds
 Says input before after (Compare first second limit) text succeeds =
@@ -72,7 +70,7 @@ Says input before after (Catalogue file task limit) text succeeds =
     KeepsCatalogue limit before after file task text succeeds
 Says input before after (Desk script) text succeeds = ⊥
 Says input before after (Infinite file) text succeeds =
-    ChecksEither (AreGiven input before file) text succeeds
+    ChecksInfinite (AreGiven input before file) text succeeds
 Says input before after (ShowInfinite file layout) text succeeds =
     ShowsInfinite (AreGiven input before file) layout text succeeds
 Says input before after (PlayInfinite file position) text succeeds =

@@ -12,7 +12,7 @@ use command_results::{Noted, Said, Stop};
 use description_commands::{compare, describe, present, show};
 use descriptions::Form;
 use given_quotients::check;
-use position_commands::{all_wins, apart, play, play_lines, value};
+use position_commands::{Question, apart, ask, play_lines};
 use requests::Plan;
 use solve_command::{certify, series, solve, solve_infinite, solve_lines, solve_many};
 use std::alloc::Global;
@@ -101,18 +101,18 @@ fn say<'a, F: Folder, S: Source>(
             file,
             position,
             limit,
-        } => play(alloc, file, position, limit, folder, input),
+        } => ask(alloc, Question::Play, file, position, limit, folder, input),
         Plan::PlayLines { file, limit } => play_lines(alloc, file, limit, folder, input),
         Plan::Wins {
             file,
             position,
             limit,
-        } => all_wins(alloc, file, position, limit, folder, input),
+        } => ask(alloc, Question::Wins, file, position, limit, folder, input),
         Plan::Value {
             file,
             position,
             limit,
-        } => value(alloc, file, position, limit, folder, input),
+        } => ask(alloc, Question::Value, file, position, limit, folder, input),
         Plan::Apart {
             file,
             first,

@@ -1,4 +1,3 @@
-mod Quotients
 mod Found
 mod FoundIsomorphism
 mod Images

@@ -1,10 +1,11 @@
 -- The lines of a quotient that a file gives. This project's own.
-use Rattle.std.specs.Prelude.{◌≡◌, ℕ, ◌+◌, ◌==◌, Bool, true, false, List, [], ◌++◌, Option, Result, Ok, Err, Vec, if◌then◌else◌, codes, decimal}
+use Rattle.std.specs.Prelude.{◌≡◌, ℕ, ◌+◌, ◌==◌, Bool, true, List, [], ◌++◌, if◌then◌else◌, codes, decimal}
 use Rattle.misere_theory.specs.Certificates.{Certificate, claim_of, kind_of, phi_at}
 use Rattle.octal_code.specs.Text.{code_text}
 use Rattle.positions.specs.Text.{position_text}
 use Rattle.answers.specs.Spelled.{AreSpelled}
 use Rattle.given_quotients.specs.Given.{Gives, Refuses}
+use Rattle.given_quotients.specs.Says.{SaysGiven}
 use Rattle.given_quotients.specs.declared.giving.Quotient.{Quotient}
 use Rattle.given_quotients.specs.declared.giving.Quotient.TheVariants.{Finite, Whole, Presented}
 use Rattle.label_descriptions.specs.Whole.{IsWholeText}
@@ -65,17 +66,11 @@ pub record IsQuotientText (c : Certificate) (text : List ℕ) : Type 0 where
   pub lines : text ≡ head_lines c ++ elements ++ heaps ++ tail_line c
 
 -- the same of each kind of quotients
-abbrev pub ShowsOf : Quotient → List ℕ → Type 0
-ShowsOf (Finite c) text = IsQuotientText c text
-ShowsOf (Whole c) text = IsWholeText Plain c text
-ShowsOf (Presented k) text = text ≡ presented_text_for Plain k
-
--- the text of the quotient that was found, and the text of a no where none was
-abbrev pub ShowsFound : {A : Type 0} → Result Quotient (Vec ℕ A) → List ℕ → Bool → Type 0
-ShowsFound (Ok q) text succeeds = ShowsOf q text × (succeeds ≡ true)
-ShowsFound (Err said) text succeeds = (text ≡ said.items) × (succeeds ≡ false)
+abbrev pub ShowsOf : Quotient → List ℕ → Bool → Type 0
+ShowsOf (Finite c) text succeeds = IsQuotientText c text × (succeeds ≡ true)
+ShowsOf (Whole c) text succeeds = IsWholeText Plain c text × (succeeds ≡ true)
+ShowsOf (Presented k) text succeeds = (text ≡ presented_text_for Plain k) × (succeeds ≡ true)
 
 -- the text is that of the quotient that such bytes give under the limit, or of a true no
 abbrev pub Shows : (List ℕ → Type 0) → ℕ → List ℕ → Bool → Type 0
-Shows Are limit text true = (q : Quotient) × Gives Are limit q × ShowsOf q text
-Shows Are limit text false = Refuses Are limit text
+Shows Are limit text succeeds = SaysGiven ShowsOf (Gives Are limit) (Refuses Are limit) text succeeds

@@ -183,10 +183,7 @@ fn compare_beside<'a, F: Folder, S: Source>(
         → folder.new ≡ folder.old }
 {
     let found = quotient_of(alloc, second, limit, folder, input)?;
-    match said_beside(alloc, a, found, limit) {
-        Ok(said) => Ok(said),
-        Err(Memory) => Err(Stop::Memory),
-    }
+    Ok(said_beside(alloc, a, found, limit)?)
 }
 
 /// Compares the quotients that the two files give under the limit, where one that isn't named is
@@ -228,9 +225,6 @@ pub fn compare<'a, F: Folder, S: Source>(
             let a = operand_of(alloc, quotient, limit)?;
             compare_beside(alloc, &a, second, limit, folder, input)
         }
-        Err(no) => {
-            let said = no_of(alloc, "first: ", &no)?;
-            Ok(said)
-        }
+        Err(no) => Ok(no_of(alloc, "first: ", &no)?),
     }
 }

@@ -278,8 +278,5 @@ pub fn describe<'a, F: Folder, S: Source>(
         → folder.new ≡ folder.old }
 {
     let found = quotient_of(alloc, file, limit, folder, input)?;
-    match noted(&Relating, alloc, found, form, output) {
-        Ok(noted) => Ok(noted),
-        Err(Memory) => Err(Stop::Memory),
-    }
+    Ok(noted(&Relating, alloc, found, form, output)?)
 }

@@ -2,7 +2,8 @@
 ghost use Rattle.std.specs.Prelude.{◌≡◌, ◌<◌, ◌+◌, false, IfOk, IfErr, is_none, is_some, option_map};
 ghost use Rattle.std.specs.String.{string_bytes};
 ghost use Rattle.given_quotients.specs.Checks.{AreGiven, IsGivenCause, failed};
-ghost use Rattle.description_commands.specs.Shown.{AreElementLines, AreHeapLines, IsQuotientText, Shows, ShowsFound, element_line, head_lines, heap_line, letter_of, partial_tail_line, repeat_line, tail_line};
+ghost use Rattle.given_quotients.specs.Says.{SaysFound};
+ghost use Rattle.description_commands.specs.Shown.{AreElementLines, AreHeapLines, IsQuotientText, Shows, ShowsOf, element_line, head_lines, heap_line, letter_of, partial_tail_line, repeat_line, tail_line};
 
 use allocation::Memory;
 use answers::Certified;
@@ -117,7 +118,7 @@ fn quotient_text(alloc: Global, certified: &Certified) -> Result<String, Memory>
 
 /// What is said of what was found.
 fn shown(alloc: Global, found: Result<Quotient, Vec<u8>>) -> Result<Said, Memory>
-    ensures { IfOk result (λ s. ShowsFound found s.text.items s.succeeds) }
+    ensures { IfOk result (λ s. SaysFound ShowsOf found s.text.items s.succeeds) }
 {
     match found {
         Ok(Quotient::Finite(certified)) => Ok(Said::done(quotient_text(alloc, &certified)?)),
@@ -152,8 +153,5 @@ pub fn show<'a, F: Folder, S: Source>(
         → folder.new ≡ folder.old }
 {
     let found = quotient_of(alloc, file, limit, folder, input)?;
-    match shown(alloc, found) {
-        Ok(said) => Ok(said),
-        Err(Memory) => Err(Stop::Memory),
-    }
+    Ok(shown(alloc, found)?)
 }

@@ -10,7 +10,7 @@ ghost use Rattle.opened.specs.Texts.{kind_of, order_of};
 ghost use Rattle.player.specs.Asked.{IsOpened, IsUnopened, IsUnshared};
 ghost use Rattle.player.specs.Many.{TellAll};
 
-use crate::solving::{solve, solve_presented};
+use crate::solving::{found_of, handed};
 use infinite_queries::{
     answer, answers, check, close, code, describe, failure, kind, open, order, outcome, outcomes,
     share, value,
@@ -284,7 +284,10 @@ pub extern "C" fn misere_solve_infinite(
         × IsToldOf code.now heaps text succeeds × (count.new ≡ length text) }
     ensures untold { result ≢ 0 → result ≢ 13 → result ≢ 14 → count.new ≡ count.old }
 {
-    solve(alloc, code, heaps, told, count)
+    match found_of(alloc, code, heaps, false) {
+        Ok(said) => handed(&said, told, count),
+        Err(status) => status,
+    }
 }
 
 /// Looks for a presentation of an infinite quotient of a code, of the heaps 1 to at most `heaps`, from 1 to 1024. Tells the
@@ -306,5 +309,8 @@ pub extern "C" fn misere_solve_presented(
         × IsPresentedOf code.now heaps text succeeds × (count.new ≡ length text) }
     ensures untold { result ≢ 0 → result ≢ 13 → result ≢ 14 → count.new ≡ count.old }
 {
-    solve_presented(alloc, code, heaps, told, count)
+    match found_of(alloc, code, heaps, true) {
+        Ok(said) => handed(&said, told, count),
+        Err(status) => status,
+    }
 }

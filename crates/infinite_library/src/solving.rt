@@ -1,7 +1,8 @@
 //! The search for an infinite quotient.
-ghost use Rattle.std.specs.Prelude.{◌≡◌, ◌≢◌, ◌↔◌, ◌<◌, ℕ, Bool, List, true, false, IfOk, IfErr, IsTrue, length, take};
-ghost use Rattle.infinite_library.specs.Found.{AreInRange, IsPresentedOf, IsToldOf, IsUntold};
+ghost use Rattle.std.specs.Prelude.{◌≡◌, ◌≢◌, ◌↔◌, ◌<◌, true, false, IfOk, IfErr, IsErrOf, IsTrue, length, take};
+ghost use Rattle.infinite_library.specs.Found.{AreInRange, IsUntold};
 ghost use Rattle.solve_command.specs.Asked.{IsFound};
+ghost use Rattle.solve_command.specs.Solved.{IsNoCode};
 
 use command_results::{Said, Stop};
 use infinite_queries::hand_over;
@@ -23,34 +24,29 @@ fn are_in_range(heaps: u32) -> bool
     1 <= heaps && heaps <= LARGEST_PART as u32
 }
 
-/// What is said of the code that the bytes spell, or the status.
-fn found_of(alloc: Global, code: &[u8], heaps: u32) -> Result<Said, u32>
-    ensures told { IfOk result
-        (λ s. AreInRange heaps × IsFound code.now heaps false s.text.items s.succeeds) }
-    ensures no { IfErr result (λ s. s ≢ 0 × s ≢ 13 × s ≢ 14) }
-    ensures why { IfErr result (IsUntold code.now heaps) }
+/// What the search for the code that the bytes spell says, of its whole game too or of presentations alone.
+fn said_of(alloc: Global, code: &[u8], heaps: u32, presented: bool) -> Result<Said, Stop<'static>>
+    ensures says { IfOk result (λ s. IsFound code.now heaps presented s.text.items s.succeeds) }
+    ensures not_a_code { IsErrOf result Stop.NotACode ↔ IsNoCode code.now }
 {
-    if !are_in_range(heaps) {
-        return Err(NOT_IN_RANGE);
-    }
-    match solve_infinite_bytes(alloc, code, heaps) {
-        Ok(said) => Ok(said),
-        Err(Stop::NotACode) => Err(NOT_A_CODE),
-        Err(_) => Err(MEMORY),
+    if presented {
+        present_infinite_bytes(alloc, code, heaps)
+    } else {
+        solve_infinite_bytes(alloc, code, heaps)
     }
 }
 
-/// The same of a presentation.
-fn presented_of(alloc: Global, code: &[u8], heaps: u32) -> Result<Said, u32>
+/// The same, if the heaps are in their range; else the status.
+pub(crate) fn found_of(alloc: Global, code: &[u8], heaps: u32, presented: bool) -> Result<Said, u32>
     ensures told { IfOk result
-        (λ s. AreInRange heaps × IsFound code.now heaps true s.text.items s.succeeds) }
+        (λ s. AreInRange heaps × IsFound code.now heaps presented s.text.items s.succeeds) }
     ensures no { IfErr result (λ s. s ≢ 0 × s ≢ 13 × s ≢ 14) }
     ensures why { IfErr result (IsUntold code.now heaps) }
 {
     if !are_in_range(heaps) {
         return Err(NOT_IN_RANGE);
     }
-    match present_infinite_bytes(alloc, code, heaps) {
+    match said_of(alloc, code, heaps, presented) {
         Ok(said) => Ok(said),
         Err(Stop::NotACode) => Err(NOT_A_CODE),
         Err(_) => Err(MEMORY),
@@ -58,7 +54,7 @@ fn presented_of(alloc: Global, code: &[u8], heaps: u32) -> Result<Said, u32>
 }
 
 /// Hands over what is said: 0, or the number of a search that was given up, or that of no room.
-fn handed(said: &Said, told: &mut [u8], count: &mut u64) -> u32
+pub(crate) fn handed(said: &Said, told: &mut [u8], count: &mut u64) -> u32
     ensures found { result ≡ 0 → said.now.succeeds ≡ true }
     ensures given_up { result ≡ 13 → said.now.succeeds ≡ false }
     ensures put { result ≢ 14 → take count.new told.new ≡ said.now.text.items }
@@ -71,47 +67,4 @@ fn handed(said: &Said, told: &mut [u8], count: &mut u64) -> u32
         return GAVE_UP;
     }
     status
-}
-
-/// Looks for an infinite quotient of the code, as `misere solve CODE --infinite` does: of the whole game, or else of the
-/// first heaps, up to `heaps`. Tells the text, and how many bytes it has; of a search that was given up the line that
-/// says how. Where there is no room for them, it tells how many they are alone.
-pub(crate) fn solve(alloc: Global, code: &[u8], heaps: u32, told: &mut [u8], count: &mut u64) -> u32
-    ensures found { result ≡ 0 → IsToldOf code.now heaps (take count.new told.new) true }
-    ensures given_up { result ≡ 13 → IsToldOf code.now heaps (take count.new told.new) false }
-    ensures no { result ≢ 0 → result ≢ 13 → result ≢ 14 → IsUntold code.now heaps result }
-    ensures stays { result ≢ 0 → result ≢ 13 → told.new ≡ told.old }
-    ensures room { result ≡ 14 → length told.old < count.new }
-    ensures counts { result ≡ 14 → (text : List ℕ) × (succeeds : Bool)
-        × IsToldOf code.now heaps text succeeds × (count.new ≡ length text) }
-    ensures untold { result ≢ 0 → result ≢ 13 → result ≢ 14 → count.new ≡ count.old }
-{
-    match found_of(alloc, code, heaps) {
-        Ok(said) => handed(&said, told, count),
-        Err(status) => status,
-    }
-}
-
-/// Looks for a presentation of an infinite quotient of the code, as `misere solve CODE --infinite --presented` does. Tells
-/// the text as [`solve`] does.
-pub(crate) fn solve_presented(
-    alloc: Global,
-    code: &[u8],
-    heaps: u32,
-    told: &mut [u8],
-    count: &mut u64,
-) -> u32
-    ensures found { result ≡ 0 → IsPresentedOf code.now heaps (take count.new told.new) true }
-    ensures given_up { result ≡ 13 → IsPresentedOf code.now heaps (take count.new told.new) false }
-    ensures no { result ≢ 0 → result ≢ 13 → result ≢ 14 → IsUntold code.now heaps result }
-    ensures stays { result ≢ 0 → result ≢ 13 → told.new ≡ told.old }
-    ensures room { result ≡ 14 → length told.old < count.new }
-    ensures counts { result ≡ 14 → (text : List ℕ) × (succeeds : Bool)
-        × IsPresentedOf code.now heaps text succeeds × (count.new ≡ length text) }
-    ensures untold { result ≢ 0 → result ≢ 13 → result ≢ 14 → count.new ≡ count.old }
-{
-    match presented_of(alloc, code, heaps) {
-        Ok(said) => handed(&said, told, count),
-        Err(status) => status,
-    }
 }

@@ -8,6 +8,7 @@ use Rattle.command_results.specs.Stops.{IsFileCause}
 use Rattle.command_results.specs.declared.lines.TheConstants.{LARGEST_INPUT}
 use Rattle.command_results.specs.declared.stop.Stop.{Stop}
 use Rattle.given_quotients.specs.Given.{Gives, Refuses}
+use Rattle.given_quotients.specs.Says.{SaysGiven}
 use Rattle.given_quotients.specs.declared.giving.Quotient.{Quotient}
 use Rattle.position_commands.specs.PlayLines.{no_position_line}
 use Rattle.position_commands.specs.Plays.{IsNoPosition, PlaysIn}
@@ -28,15 +29,16 @@ pub data AnswersLine (q : Quotient) (line text : List ℕ) (succeeds : Bool) : T
   NoPosition : IsNoPosition line → text ≡ no_position_line → succeeds ≡ false
       → AnswersLine q line text succeeds
 
--- What is said of the lines that are given, by the quotient that such bytes give under the
--- limit; or that of a true no, whatever the lines are.
-pub data PlaysLines (Are : List ℕ → Type 0) (limit : ℕ) (AreLines : List ℕ → Type 0)
-    (text : List ℕ) (succeeds : Bool) : Type 0 where
-  ByQuotient : (q : Quotient) (lines : List ℕ) → Gives Are limit q → AreLines lines
-      → length lines ≤ LARGEST_INPUT → AnswersLines (AnswersLine q) lines text succeeds
-      → PlaysLines Are limit AreLines text succeeds
-  NoQuotient : Refuses Are limit text → succeeds ≡ false
-      → PlaysLines Are limit AreLines text succeeds
+-- what is said of the lines that are given, one behind the other
+abbrev pub AnswersGiven : (List ℕ → Type 0) → Quotient → List ℕ → Bool → Type 0
+AnswersGiven AreLines q text succeeds =
+    (lines : List ℕ) × AreLines lines × (length lines ≤ LARGEST_INPUT)
+    × AnswersLines (AnswersLine q) lines text succeeds
+
+-- The same by the quotient that such bytes give under the limit; or the text of a true no, whatever the lines are.
+abbrev pub PlaysLines : (List ℕ → Type 0) → ℕ → (List ℕ → Type 0) → List ℕ → Bool → Type 0
+PlaysLines Are limit AreLines text succeeds =
+    SaysGiven (AnswersGiven AreLines) (Gives Are limit) (Refuses Are limit) text succeeds
 
 -- ---- why nothing is said
 

@@ -1,6 +1,6 @@
 -- What is said in a position, by the quotient that a file gives, and why nothing is. This project's
 -- own.
-use Rattle.std.specs.Prelude.{◌≡◌, ◌-◌, ◌⊎◌, ⊤, ℕ, Bool, true, false, List, Option, Result, Ok, Err, Vec}
+use Rattle.std.specs.Prelude.{◌≡◌, ◌-◌, ◌⊎◌, ⊤, ℕ, Bool, true, false, List, Option}
 use Rattle.misere_theory.specs.Certificates.{Certificate}
 use Rattle.positions.specs.declared.position.TheConstants.{MOST_SIZES, LARGEST_HEAP}
 use Rattle.positions.specs.Text.{IsNoPositionText, IsTextOf, HasTooMany, HasTooLarge}
@@ -10,7 +10,6 @@ use Rattle.given_quotients.specs.Checks.{Failed, IsGivenCause}
 use Rattle.dominance_text.specs.Said.{DominanceSaid}
 use Rattle.presented_checker.specs.Refused.{Kept}
 use Rattle.label_players.specs.Plays.{SpeaksOf as HasWordsOf}
-use Rattle.given_quotients.specs.Given.{Gives, Refuses}
 use Rattle.given_quotients.specs.declared.giving.Quotient.{Quotient}
 use Rattle.given_quotients.specs.declared.giving.Quotient.TheVariants.{Finite, Whole, Presented}
 use Rattle.command_results.specs.declared.stop.Stop.{Stop}
@@ -53,19 +52,6 @@ abbrev pub PlaysIn : Quotient → List ℕ → List ℕ → Bool → Type 0
 PlaysIn (Finite c) X text succeeds = PlaysFinite c X text succeeds
 PlaysIn (Whole c) X text succeeds = AnswersWhole c X text × (succeeds ≡ true)
 PlaysIn (Presented k) X text succeeds = PlaysPresented k X text succeeds
-
--- the same where a quotient was found, and the text of a no where none was
-abbrev pub PlaysFound : {A : Type 0} → Result Quotient (Vec ℕ A) → List ℕ → List ℕ → Bool → Type 0
-PlaysFound (Ok q) X text succeeds = PlaysIn q X text succeeds
-PlaysFound (Err said) X text succeeds = (text ≡ said.items) × (succeeds ≡ false)
-
--- What is said in the position by the quotient that such bytes give under the limit: the right answer in
--- its game, or that it speaks not of the position. Or they give none, and the text is that of a true no.
-abbrev pub Plays : (List ℕ → Type 0) → ℕ → List ℕ → List ℕ → Bool → Type 0
-Plays Are limit position text succeeds =
-    ((q : Quotient) × Gives Are limit q
-    × ((X : List ℕ) × IsTextOf position X × PlaysIn q X text succeeds))
-    ⊎ (Refuses Are limit text × (succeeds ≡ false))
 
 -- the text is not that of at most 64 sizes up to 10^18
 abbrev pub IsNoPosition : List ℕ → Type 0

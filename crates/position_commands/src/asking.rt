@@ -1,15 +1,13 @@
-//! `play --all`: all winning moves in a position, out of a file.
-ghost use Rattle.std.specs.Prelude.{◌≡◌, false, true, IfOk, IfErr, IsErrOf, is_none, is_some, option_map};
+//! What is asked of a position, out of a file.
+ghost use Rattle.std.specs.Prelude.{◌≡◌, false, IfOk, IfErr, IsErrOf, is_none, is_some, option_map};
 ghost use Rattle.given_quotients.specs.Checks.{AreGiven, failed};
-ghost use Rattle.given_quotients.specs.declared.giving.Quotient.TheVariants.{Finite, Whole};
+ghost use Rattle.given_quotients.specs.Says.{SaysFound};
 ghost use Rattle.position_commands.specs.Plays.{IsPlayCause};
-ghost use Rattle.player.specs.Answers.{SpeaksOf};
-ghost use Rattle.position_commands.specs.Said.{AsksWins, SaysBy, SaysFoundOf, SaysWins};
-ghost use Rattle.position_commands.specs.Wins.{TellsPresentedWins, TellsWins};
+ghost use Rattle.position_commands.specs.Said.{Asks, SaysTo};
 
-use crate::quotients::speaks_of;
+use crate::playing::{played, position_of};
+use crate::valuing::value_said;
 use crate::wins::wins_said;
-use crate::{beyond, position_of};
 use allocation::Memory;
 use command_results::{Said, Stop};
 use given_quotients::{Quotient, quotient_of};
@@ -17,39 +15,59 @@ use positions::Position;
 use std::alloc::Global;
 use streams::{Folder, Source};
 
-/// What the quotient says of the position.
-fn said_by(alloc: Global, quotient: &Quotient, position: &Position) -> Result<Said, Memory>
-    ensures { IfOk result (λ s. SaysWins position.now quotient.now s.text.items s.succeeds) }
-{
-    if speaks_of(quotient, position) {
-        return wins_said(alloc, quotient, position);
-    }
-    let said = beyond(alloc)?;
-    Ok(said)
+/// What is asked of a position.
+#[derive(Clone, Copy, Debug, PartialEq, Eq)]
+pub enum Question {
+    /// What to do in it: the first winning move, that each move loses, or that there is none. Of a whole game, of which
+    /// the quotient speaks of every position, the first is meant of the moves that leave at most one heap from start
+    /// on, and by a presentation, of those whose parts but the largest are heaps of its list.
+    Play,
+    /// All winning moves of those that a player looks at.
+    Wins,
+    /// Its element in the quotient, and its outcome: a number and a position of that element for a finite quotient, for
+    /// a whole game a triple, and by a presentation a word.
+    Value,
 }
 
-/// What is said of the position by what was found.
-fn said_in(
+/// What is said to the question in the position by the quotient.
+fn said_by(
     alloc: Global,
+    question: Question,
+    quotient: &Quotient,
+    position: &Position,
+) -> Result<Said, Memory>
+    ensures { IfOk result
+        (λ s. SaysTo question position.now quotient.now s.text.items s.succeeds) }
+{
+    match question {
+        Question::Play => Ok(played(alloc, quotient, position)?),
+        Question::Wins => wins_said(alloc, quotient, position),
+        Question::Value => value_said(alloc, quotient, position),
+    }
+}
+
+/// The same by what was found, or the text of a no.
+pub fn said_in(
+    alloc: Global,
+    question: Question,
     found: Result<Quotient, Vec<u8>>,
     position: &Position,
 ) -> Result<Said, Memory>
     ensures { IfOk result
-        (λ s. SaysFoundOf (λ c. SaysBy (λ d. SpeaksOf d position.now) (λ d. TellsWins (Finite d) position.now) c)
-        (λ c. TellsWins (Whole c) position.now) (λ k. TellsPresentedWins k position.now) found s.text.items
-        s.succeeds) }
+        (λ s. SaysFound (SaysTo question position.now) found s.text.items s.succeeds) }
 {
     match found {
-        Ok(quotient) => said_by(alloc, &quotient, position),
+        Ok(quotient) => said_by(alloc, question, &quotient, position),
         Err(no) => Ok(Said::no(no)),
     }
 }
 
-/// All winning moves in the position by the quotient that the file, or standard input where no file is named,
-/// gives under the limit, of those that a player looks at; or says that a quotient doesn't speak of the position, or
-/// why there is none. The position is read first.
-pub fn all_wins<'a, F: Folder, S: Source>(
+/// Answers the question in the position by the quotient that the file, or standard input where no file is named,
+/// gives under the limit; or says that a quotient doesn't speak of the position, or why there is none. The position
+/// is read first.
+pub fn ask<'a, F: Folder, S: Source>(
     alloc: Global,
+    question: Question,
     file: Option<&'a str>,
     position: &str,
     limit: u32,
@@ -57,7 +75,7 @@ pub fn all_wins<'a, F: Folder, S: Source>(
     input: &mut S,
 ) -> Result<Said, Stop<'a>>
     ensures asks { let named = option_map (λ f. f.now) file.entry in
-        IfOk result (λ s. AsksWins (AreGiven (S.left input.old) (F.files folder.old) named) limit
+        IfOk result (λ s. Asks question (AreGiven (S.left input.old) (F.files folder.old) named) limit
         position.now s.text.items s.succeeds) }
     ensures kept { F.files folder.new ≡ F.files folder.old }
     ensures usage { IsErrOf result Stop.NotAPosition → folder.new ≡ folder.old }
@@ -70,8 +88,5 @@ pub fn all_wins<'a, F: Folder, S: Source>(
 {
     let position = position_of(alloc, position)?;
     let found = quotient_of(alloc, file, limit, folder, input)?;
-    match said_in(alloc, found, &position) {
-        Ok(said) => Ok(said),
-        Err(Memory) => Err(Stop::Memory),
-    }
+    Ok(said_in(alloc, question, found, &position)?)
 }

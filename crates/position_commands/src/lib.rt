@@ -13,9 +13,8 @@ mod valuing;
 mod wins;
 
 pub use answer_lines::answer_text;
-pub use asking::all_wins;
-pub use many::{no_position, play_lines};
-pub use playing::{beyond, play, position_of, presented_played, whole_played};
+pub use asking::{Question, ask, said_in};
+pub use many::{lines_said, play_lines};
+pub use playing::position_of;
 pub use telling::apart;
-pub use valuing::value;
 pub use wins::MOST_LOOKS;

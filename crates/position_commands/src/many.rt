@@ -1,9 +1,10 @@
 //! The answers in the positions of many lines.
 ghost use Rattle.std.specs.Prelude.{◌≡◌, false, IfOk, IfErr};
 ghost use Rattle.given_quotients.specs.Checks.{failed};
-ghost use Rattle.command_results.specs.Lines.{AnswersLines, AreLinesOf};
+ghost use Rattle.given_quotients.specs.Says.{SaysFound};
+ghost use Rattle.command_results.specs.Lines.{AnswersLines, AreLinesOf, IsLinesCause};
 ghost use Rattle.position_commands.specs.PlayLines.{no_position_line};
-ghost use Rattle.position_commands.specs.Many.{AnswersLine, AreFileOf, IsPlayLinesCause, PlaysLines};
+ghost use Rattle.position_commands.specs.Many.{AnswersGiven, AnswersLine, AreFileOf, IsPlayLinesCause, PlaysLines};
 
 use crate::playing::played;
 use command_results::{Said, Stop, first_line, input_lines};
@@ -13,7 +14,7 @@ use std::alloc::{AllocError, Global};
 use streams::{Folder, Source};
 
 /// That a line is no position.
-pub fn no_position(alloc: Global) -> Result<Said, AllocError>
+fn no_position(alloc: Global) -> Result<Said, AllocError>
     ensures text { IfOk result (λ s. s.text.items ≡ no_position_line) }
     ensures succeeds { IfOk result (λ s. s.succeeds ≡ false) }
 {
@@ -21,7 +22,7 @@ pub fn no_position(alloc: Global) -> Result<Said, AllocError>
     Ok(Said::no(text.into_bytes()))
 }
 
-/// What is said of a line: what `play` says in its position, or that it is none.
+/// What is said of a line: what to do in its position, or that it is none.
 fn line_answer(alloc: Global, quotient: &Quotient, line: &[u8]) -> Result<Said, AllocError>
     ensures { IfOk result (λ s. AnswersLine quotient.now line.now s.text.items s.succeeds) }
 {
@@ -51,8 +52,29 @@ fn lines_answers(alloc: Global, quotient: &Quotient, lines: &[u8]) -> Result<Sai
     Ok(Said { text, succeeds })
 }
 
+/// What is said of each line of standard input by what was found, or the text of a no, and standard input is left
+/// alone.
+pub fn lines_said<S: Source>(
+    alloc: Global,
+    found: Result<Quotient, Vec<u8>>,
+    input: &mut S,
+) -> Result<Said, Stop<'static>>
+    ensures says { IfOk result
+        (λ s. SaysFound (AnswersGiven (AreLinesOf (S.left input.old))) found s.text.items s.succeeds) }
+    ensures stops { IfErr result (IsLinesCause (AreLinesOf (S.left input.old))
+        (S.failures input.old) (S.failures input.new)) }
+{
+    match found {
+        Ok(quotient) => {
+            let lines = input_lines(alloc, input)?;
+            Ok(lines_answers(alloc, &quotient, &lines)?)
+        }
+        Err(no) => Ok(Said::no(no)),
+    }
+}
+
 /// Answers in the position of each line of standard input by the quotient that the file gives
-/// under the limit, as [`play`](crate::play) does in one; of a line that is no position it says so.
+/// under the limit, as [`ask`](crate::ask) does in one what to do; of a line that is no position it says so.
 /// It ends well where each line has an answer. Or it says why the file gives no quotient, and
 /// standard input is left alone. The file's text is checked once, and first.
 pub fn play_lines<'a, F: Folder, S: Source>(
@@ -69,12 +91,6 @@ pub fn play_lines<'a, F: Folder, S: Source>(
         (failed (S.failures input.old) (F.failed_reads folder.old))
         (failed (S.failures input.new) (F.failed_reads folder.new))) }
 {
-    match quotient_of(alloc, Some(file), limit, folder, input)? {
-        Ok(quotient) => {
-            let lines = input_lines(alloc, input)?;
-            let said = lines_answers(alloc, &quotient, &lines)?;
-            Ok(said)
-        }
-        Err(no) => Ok(Said::no(no)),
-    }
+    let found = quotient_of(alloc, Some(file), limit, folder, input)?;
+    lines_said(alloc, found, input)
 }

@@ -1,22 +1,20 @@
-//! The answer in a position, out of a file.
-ghost use Rattle.std.specs.Prelude.{◌≡◌, ◌≤◌, true, false, IfOk, IfErr, IsErrOf, is_none, is_some, option_map};
-ghost use Rattle.given_quotients.specs.Checks.{AreGiven, failed};
+//! The answer in a position.
+ghost use Rattle.std.specs.Prelude.{◌≡◌, ◌≤◌, true, false, IfOk, IfErr};
 ghost use Rattle.positions.specs.Text.{IsTextOf};
 ghost use Rattle.player.specs.Answers.{SpeaksOf};
 ghost use Rattle.label_players.specs.Plays.{SpeaksOf as HasWordsOf};
 ghost use Rattle.position_commands.specs.PlayLines.{beyond_line};
-ghost use Rattle.position_commands.specs.Plays.{AnswersIn, AnswersPresented, AnswersWhole, IsPlayCause, IsPositionCause, Plays, PlaysFinite, PlaysFound, PlaysIn, PlaysPresented};
+ghost use Rattle.position_commands.specs.Plays.{AnswersIn, AnswersPresented, AnswersWhole, IsPositionCause, PlaysFinite, PlaysIn, PlaysPresented};
 
 use crate::answer_lines::{answer_text, beyond_text};
 use answers::Certified;
 use command_results::{Said, Stop};
-use given_quotients::{Quotient, quotient_of};
+use given_quotients::Quotient;
 use label_players::{presented_answer, presented_fits, whole_answer};
 use player::{answer, fits};
 use positions::{Position, PositionFault};
 use presented_checker::PresentedQuotient;
 use std::alloc::{AllocError, Global};
-use streams::{Folder, Source};
 use whole_checker::WholeGame;
 
 /// The position of the text.
@@ -44,7 +42,7 @@ fn answered(alloc: Global, certified: &Certified, position: &Position) -> Result
 }
 
 /// That the certificate doesn't speak of the position.
-pub fn beyond(alloc: Global) -> Result<Said, AllocError>
+pub(crate) fn beyond(alloc: Global) -> Result<Said, AllocError>
     ensures text { IfOk result (λ s. s.text.items ≡ beyond_line) }
     ensures succeeds { IfOk result (λ s. s.succeeds ≡ false) }
 {
@@ -68,11 +66,7 @@ fn finite_played(
 }
 
 /// The line of the answer in the position of a whole game.
-pub fn whole_played(
-    alloc: Global,
-    game: &WholeGame,
-    position: &Position,
-) -> Result<Said, AllocError>
+fn whole_played(alloc: Global, game: &WholeGame, position: &Position) -> Result<Said, AllocError>
     ensures plays { IfOk result (λ s. AnswersWhole game.now position.now s.text.items) }
     ensures succeeds { IfOk result (λ s. s.succeeds ≡ true) }
 {
@@ -95,7 +89,7 @@ fn presented_answered(
 }
 
 /// The line of the answer in the position by a presentation, or that this doesn't speak of it.
-pub fn presented_played(
+fn presented_played(
     alloc: Global,
     quotient: &PresentedQuotient,
     position: &Position,
@@ -121,52 +115,5 @@ pub(crate) fn played(
         Quotient::Finite(certified) => finite_played(alloc, certified, position),
         Quotient::Whole(game) => whole_played(alloc, game, position),
         Quotient::Presented(quotient) => presented_played(alloc, quotient, position),
-    }
-}
-
-/// What is said in the position by what was found.
-fn said_in(
-    alloc: Global,
-    quotient: Result<Quotient, Vec<u8>>,
-    position: &Position,
-) -> Result<Said, AllocError>
-    ensures { IfOk result (λ s. PlaysFound quotient position.now s.text.items s.succeeds) }
-{
-    match quotient {
-        Ok(quotient) => played(alloc, &quotient, position),
-        Err(no) => Ok(Said::no(no)),
-    }
-}
-
-/// Answers in the position by the quotient that the file, or standard input where no file is named, gives
-/// under the limit: with the first winning move, that each move loses, or that there is none; or says that
-/// a partial quotient doesn't speak of the position, or why there is none. Of a whole game, which speaks of
-/// every position, the first is meant of the moves that leave at most one heap from start on, and by a
-/// presentation, of those whose parts but the largest are heaps of its list. The position is read first.
-pub fn play<'a, F: Folder, S: Source>(
-    alloc: Global,
-    file: Option<&'a str>,
-    position: &str,
-    limit: u32,
-    folder: &mut F,
-    input: &mut S,
-) -> Result<Said, Stop<'a>>
-    ensures plays { let named = option_map (λ f. f.now) file.entry in
-        IfOk result (λ s. Plays (AreGiven (S.left input.old) (F.files folder.old) named) limit
-        position.now s.text.items s.succeeds) }
-    ensures kept { F.files folder.new ≡ F.files folder.old }
-    ensures usage { IsErrOf result Stop.NotAPosition → folder.new ≡ folder.old }
-    ensures stops { IfErr result (IsPlayCause (option_map (λ f. f.now) file.entry) position.now
-        (failed (S.failures input.old) (F.failed_reads folder.old))
-        (failed (S.failures input.new) (F.failed_reads folder.new))) }
-    ensures input { is_none (option_map (λ f. f.now) file.entry) ≡ false → input.new ≡ input.old }
-    ensures folder { is_some (option_map (λ f. f.now) file.entry) ≡ false
-        → folder.new ≡ folder.old }
-{
-    let position = position_of(alloc, position)?;
-    let quotient = quotient_of(alloc, file, limit, folder, input)?;
-    match said_in(alloc, quotient, &position) {
-        Ok(said) => Ok(said),
-        Err(_) => Err(Stop::Memory),
     }
 }

@@ -4,13 +4,14 @@ ghost use Rattle.std.specs.Option.{MatchOption};
 ghost use Rattle.misere_theory.specs.Certificates.{LeastApart, TellsApart, claim_of};
 ghost use Rattle.misere_theory.specs.Quotients.{value};
 ghost use Rattle.given_quotients.specs.Checks.{AreGiven, failed};
+ghost use Rattle.given_quotients.specs.Says.{SaysFound};
 ghost use Rattle.player.specs.Answers.{SpeaksOf};
 ghost use Rattle.positions.specs.Outcomes.{HasOutcome};
 ghost use Rattle.position_commands.specs.Apart.{SaysApart, SaysApartOfPresented, SaysApartOfWhole};
-ghost use Rattle.position_commands.specs.Said.{AsksOfTwo, IsApartCause, SaysBy, SaysFoundOf};
+ghost use Rattle.position_commands.specs.Said.{AsksOfTwo, IsApartCause, SaysBy, SaysOfTwo};
 
 use crate::lines::{alike_text, apart_text, heavy_text, untried_text};
-use crate::{beyond, position_of};
+use crate::playing::{beyond, position_of};
 use allocation::Memory;
 use answers::Certified;
 use command_results::{Said, Stop};
@@ -147,11 +148,7 @@ fn said_in(
     second: &Position,
 ) -> Result<Said, Memory>
     ensures { IfOk result
-        (λ s. SaysFoundOf
-        (λ c. SaysBy (λ d. SpeaksOf d first.now × SpeaksOf d second.now)
-        (λ d t b. SaysApart d first.now second.now t × (b ≡ true)) c)
-        (λ c. SaysApartOfWhole c first.now second.now)
-        (λ k. SaysApartOfPresented k first.now second.now) found s.text.items s.succeeds) }
+        (λ s. SaysFound (SaysOfTwo first.now second.now) found s.text.items s.succeeds) }
 {
     match found {
         Ok(Quotient::Finite(certified)) => finite_said(alloc, &certified, first, second),
@@ -190,8 +187,5 @@ pub fn apart<'a, F: Folder, S: Source>(
     let first = position_of(alloc, first)?;
     let second = position_of(alloc, second)?;
     let found = quotient_of(alloc, file, limit, folder, input)?;
-    match said_in(alloc, found, &first, &second) {
-        Ok(said) => Ok(said),
-        Err(Memory) => Err(Stop::Memory),
-    }
+    Ok(said_in(alloc, found, &first, &second)?)
 }

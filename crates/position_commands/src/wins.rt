@@ -5,11 +5,13 @@ ghost use Rattle.misere_theory.specs.Games.{HeapOption, IsP};
 ghost use Rattle.misere_theory.specs.Plays.{IsWinningMove};
 ghost use Rattle.heap_options.specs.Exact.{IsInOrder, heaps_of};
 ghost use Rattle.position_commands.specs.Kinds.{SpeaksIn, code_of, looks_of};
+ghost use Rattle.position_commands.specs.Said.{SaysWins};
 ghost use Rattle.position_commands.specs.Wins.{AreHeapWins, AreOptionWins, TellsWins};
 
 use crate::answer_text;
 use crate::lines::many_text;
-use crate::quotients::{answer_in, looks, looks_bound, outcome_at, stays_inside};
+use crate::playing::beyond;
+use crate::quotients::{answer_in, looks, looks_bound, outcome_at, speaks_of, stays_inside};
 use allocation::Memory;
 use command_results::Said;
 use given_quotients::Quotient;
@@ -107,11 +109,7 @@ fn heap_wins(alloc: Global, quotient: &Quotient, heaps: &[u64]) -> Result<String
 }
 
 /// The winning moves of the position, of which the quotient speaks; or that there is none, and why.
-pub(crate) fn wins_said(
-    alloc: Global,
-    quotient: &Quotient,
-    position: &Position,
-) -> Result<Said, Memory>
+fn spoken_wins(alloc: Global, quotient: &Quotient, position: &Position) -> Result<Said, Memory>
     requires { SpeaksIn quotient.now position.now }
     ensures { IfOk result (λ s. TellsWins quotient.now position.now s.text.items s.succeeds) }
 {
@@ -122,4 +120,18 @@ pub(crate) fn wins_said(
         Answer::Wins(_) => Ok(Said::done(heap_wins(alloc, quotient, position.heaps())?)),
         none => Ok(Said::done(answer_text(alloc, none)?)),
     }
+}
+
+/// The same, or that the quotient doesn't speak of the position.
+pub(crate) fn wins_said(
+    alloc: Global,
+    quotient: &Quotient,
+    position: &Position,
+) -> Result<Said, Memory>
+    ensures { IfOk result (λ s. SaysWins position.now quotient.now s.text.items s.succeeds) }
+{
+    if speaks_of(quotient, position) {
+        return spoken_wins(alloc, quotient, position);
+    }
+    Ok(beyond(alloc)?)
 }

@@ -1,14 +1,23 @@
 //! Presentations that are checked: Nim with heaps of 1 and 2, the code 0.33 up to heap 2. Its quotient is
 //! ⟨a, b | a² = 1, b³ = b⟩, and its P-portion {a, b²} (Plambeck and Siegel).
-use given_quotients::begins_presented;
-use presented_checker::check_presented;
+use given_quotients::{begins_presented, judged_presented};
+use presented_checker::{PresentedQuotient, check_presented};
 use std::alloc::Global;
-use verdict_commands::presented_said;
+use verdict_commands::yes_text;
 
-/// What is said of a text, if memory allows.
+/// Whether the line of a quotient is this one, if memory allows.
+fn is_line(alloc: Global, quotient: &PresentedQuotient, line: &[u8]) -> bool {
+    match yes_text(alloc, quotient) {
+        Ok(text) => text.as_bytes() == line,
+        Err(_) => false,
+    }
+}
+
+/// Whether this line is said of a text, if memory allows.
 fn is_said(alloc: Global, text: &[u8], line: &[u8]) -> bool {
-    match presented_said(alloc, text) {
-        Ok(said) => said.text.as_slice() == line,
+    match judged_presented(alloc, text) {
+        Ok(Ok(quotient)) => is_line(alloc, &quotient, line),
+        Ok(Err(no)) => no.as_slice() == line,
         Err(_) => false,
     }
 }

@@ -1,11 +1,10 @@
 -- What is said of the front of a text is said of all of it.
-use Rattle.std.proofs.Common.{◌≡◌, ◌≤◌, ◌<◌, ◌+◌, ◌∙◌, ℕ, Bool, true, false, List, arith, inl, inr, length, subst, sym}
-use Rattle.std.proofs.lemmas.Bool.{cases_lt}
-use Rattle.std.proofs.lemmas.List.{length-take-le, take_all}
+use Rattle.std.proofs.Common.{◌≤◌, ◌<◌, ℕ, Bool, true, false, List, arith, inl, inr, length}
 use Rattle.misere_theory.specs.Certificates.{Certificate as MqcSaid}
 use Rattle.certificate_text.specs.Spelling.{Spells}
 use Rattle.verdict_texts.specs.declared.stream.TheConstants.{MOST_BYTES}
 use Rattle.given_quotients.specs.Checks.{IsFrontOf}
+use Rattle.given_quotients.proofs.Given.{of_all}
 use Rattle.verdict_commands.specs.Explained.{Explains, ExplainsGiven, SpellsKind}
 use Rattle.verdict_commands.specs.declared.kinds.Kind.TheVariants.{Certificate}
 
@@ -26,18 +25,8 @@ long_explains short front bytes text false long more (inr h) =
 
 pub explains_given : AreShort → (Are : List ℕ → Type 0) (front text : List ℕ) (succeeds : Bool)
     → IsFrontOf Are front → Explains front text succeeds → ExplainsGiven Are text succeeds
-explains_given short Are front text succeeds given h =
-    let bytes = given.0 in (
-      bytes,
-      given.1,
-      elim (cases_lt MOST_BYTES (length bytes)) [
-        | inl more ↦
-            let n = length-take-le (MOST_BYTES + 1) bytes (omega (arith, more)) in
-            let long : length front ≡ MOST_BYTES + 1 =
-            subst (λ (f : List ℕ). length f ≡ MOST_BYTES + 1) (sym given.2) n in
-            long_explains short front bytes text succeeds (omega (arith, long)) more h
-        | inr few ↦
-            let same : front ≡ bytes = given.2 ∙ take_all (MOST_BYTES + 1) bytes (omega (arith, few)) in
-            subst (λ (f : List ℕ). Explains f text succeeds) same h
-      ],
-    )
+explains_given short Are front text succeeds (bytes, are, is) h = (
+  bytes,
+  are,
+  of_all (λ (b : List ℕ). Explains b text succeeds) bytes front is (long_explains short front bytes text succeeds) h,
+)

@@ -1,10 +1,6 @@
-mod Fronts
 mod Printed
-pub mod InfiniteGiven
-mod Found
-mod Answered
+mod InfiniteGiven
 mod Joins
-mod Quotients
 mod Given
 mod Spelling
 mod FaultyWords

@@ -1,9 +1,6 @@
 pub mod Verifies
-pub mod PresentedTold
-pub mod Told
+pub mod QuotientLines
 pub mod Checks
-pub mod Plays
-pub mod Many
 pub mod Shown
 pub mod Lines
 pub mod Explained

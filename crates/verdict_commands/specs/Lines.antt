@@ -1,8 +1,9 @@
 -- What is printed of a game that is normal play beyond some heap. This project's own.
-use Rattle.std.specs.Prelude.{◌≡◌, ◌≢◌, ◌⊎◌, ℕ, Bool, true, false, List, [], ◌++◌, Option, Some, None, Result, Ok, Err, Vec, codes, decimal}
+use Rattle.std.specs.Prelude.{◌≡◌, ◌≢◌, ◌⊎◌, ℕ, Bool, true, false, List, [], ◌++◌, Option, Some, None, codes, decimal}
 use Rattle.misere_theory.specs.Certificates.{Certificate}
 use Rattle.octal_code.specs.Text.{code_text}
 use Rattle.given_quotients.specs.Checks.{Certifies, Checks}
+use Rattle.given_quotients.specs.Says.{SaysGiven}
 use Rattle.nim_tails.specs.Tails.{IsTail, IsTailFault, tail_fault_number, tail_fault_name, tail_fault_place}
 use Rattle.nim_tails.specs.declared.whole.Tail.{Tail}
 use Rattle.nim_tails.specs.declared.fault.TailFault.{TailFault}
@@ -32,13 +33,7 @@ IsTailText c text succeeds =
     ⊎ ((f : TailFault) × IsTailFault c f × (f ≢ Memory) × (text ≡ tail_fault_line f)
     × (succeeds ≡ false))
 
--- the text of the quotient that was found, and the text of a no where none was
-abbrev pub TailsFound : {A : Type 0} → Result Certificate (Vec ℕ A) → List ℕ → Bool → Type 0
-TailsFound (Ok c) text succeeds = IsTailText c text succeeds
-TailsFound (Err said) text succeeds = (text ≡ said.items) × (succeeds ≡ false)
-
 -- the text is that of the certificate that such bytes are under the limit, or of a true no
 abbrev pub Tails : (List ℕ → Type 0) → ℕ → List ℕ → Bool → Type 0
 Tails Are limit text succeeds =
-    ((c : Certificate) × Certifies Are limit c × IsTailText c text succeeds)
-    ⊎ (Checks Are limit text false × (succeeds ≡ false))
+    SaysGiven IsTailText (Certifies Are limit) (λ t. Checks Are limit t false) text succeeds

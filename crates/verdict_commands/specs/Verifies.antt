@@ -1,17 +1,9 @@
 -- What is said of a text of any kind. This project's own.
 use Rattle.std.specs.Prelude.{ℕ, Bool, List}
-use Rattle.given_quotients.specs.Checks.{SaysVerdict}
-use Rattle.given_quotients.specs.Told.{BeginsWhole, BeginsPresented, TellsWhole}
-use Rattle.verdict_commands.specs.PresentedTold.{TellsPresented}
+use Rattle.given_quotients.specs.Given.{Gives, Refuses}
+use Rattle.given_quotients.specs.Says.{SaysGiven}
+use Rattle.verdict_commands.specs.QuotientLines.{TellsQuotient}
 
--- The text says of bytes that begin as a text of a whole game does whether that is right; of those that begin as a
--- presentation does it says whether that is right; and of all others it is what `check` says.
-pub record SaysOfAny (bytes : List ℕ) (limit : ℕ) (text : List ℕ) (accepted : Bool) : Type 0 where
-  pub whole : BeginsWhole bytes → TellsWhole bytes text accepted
-  pub presented : BeginsPresented bytes → TellsPresented bytes text accepted
-  pub finite : (BeginsWhole bytes → ⊥) → (BeginsPresented bytes → ⊥) → SaysVerdict bytes limit text accepted
-
--- the same of the bytes that are given
+-- the line of the quotient that such bytes give under the limit, or the text of a true no
 abbrev pub Verifies : (List ℕ → Type 0) → ℕ → List ℕ → Bool → Type 0
-Verifies Are limit text accepted =
-    (bytes : List ℕ) × Are bytes × SaysOfAny bytes limit text accepted
+Verifies Are limit text accepted = SaysGiven TellsQuotient (Gives Are limit) (Refuses Are limit) text accepted

@@ -1,35 +1,23 @@
 //! What is said of a text of a whole game, or of a presentation of an infinite quotient.
-ghost use Rattle.std.specs.Prelude.{◌≡◌, codes, false, true, IfOk, IfErr, is_none, is_some, option_map};
-ghost use Rattle.std.specs.String.{string_bytes};
+ghost use Rattle.std.specs.Prelude.{◌≡◌, codes, false, IfOk, IfErr, is_none, is_some, option_map};
 ghost use Rattle.given_quotients.specs.Checks.{AreGiven, IsGivenCause, failed};
-ghost use Rattle.given_quotients.specs.Told.{whole_line};
-ghost use Rattle.verdict_commands.specs.Told.{TellsEither};
-ghost use Rattle.verdict_commands.specs.Checks.{ChecksEither, FindsInfinite, JudgesEndless, JudgesInfinite, found_line};
+ghost use Rattle.verdict_commands.specs.Checks.{ChecksInfinite, FindsInfinite, JudgesEndless, JudgesInfinite};
 ghost use Rattle.verdict_texts.specs.Lines.{no_line};
 
-use crate::yes_text;
+use crate::quotients::line_said;
 use allocation::Memory;
 use answers::InfiniteRefusal;
 use command_results::{Said, Stop};
 use given_quotients::{
-    begins_presented, begins_whole, given_bytes, judged_presented, judged_whole, refusal_text,
+    Quotient, begins_presented, begins_whole, given_bytes, judged_presented, judged_whole,
+    refusal_text,
 };
 use presented_checker::PresentedQuotient;
 use std::alloc::Global;
 use streams::{Folder, Source};
-use whole_checker::WholeGame;
-
-/// What a text shows.
-#[derive(Drop)]
-pub enum ShownText {
-    /// A whole game in which one heap may rule all others.
-    Whole(WholeGame),
-    /// An infinite quotient, by generators and relations.
-    Presented(PresentedQuotient),
-}
 
 /// The text that bytes are neither a text of a whole game nor a presentation.
-fn no_text(alloc: Global) -> Result<Vec<u8>, Memory>
+pub(crate) fn no_text(alloc: Global) -> Result<Vec<u8>, Memory>
     ensures { IfOk result (λ t. t.items ≡ no_line 1 (codes "Text")) }
 {
     let text = refusal_text(alloc, InfiniteRefusal::Text)?;
@@ -60,18 +48,18 @@ fn judged_endless(alloc: Global, bytes: &[u8]) -> Result<Result<PresentedQuotien
 }
 
 /// Checks the bytes as a text of a whole game, or as a presentation, by their first word. Others are neither.
-fn judged(alloc: Global, bytes: &[u8]) -> Result<Result<ShownText, Vec<u8>>, Memory>
+fn judged(alloc: Global, bytes: &[u8]) -> Result<Result<Quotient, Vec<u8>>, Memory>
     ensures { IfOk result (JudgesInfinite bytes.now) }
 {
     if begins_whole(bytes) {
         return match judged_whole(alloc, bytes)? {
-            Ok(game) => Ok(Ok(ShownText::Whole(game))),
+            Ok(game) => Ok(Ok(Quotient::Whole(game))),
             Err(no) => Ok(Err(no)),
         };
     }
     if begins_presented(bytes) {
         return match judged_endless(alloc, bytes)? {
-            Ok(quotient) => Ok(Ok(ShownText::Presented(quotient))),
+            Ok(quotient) => Ok(Ok(Quotient::Presented(quotient))),
             Err(no) => Ok(Err(no)),
         };
     }
@@ -80,12 +68,12 @@ fn judged(alloc: Global, bytes: &[u8]) -> Result<Result<ShownText, Vec<u8>>, Mem
 
 /// Checks the text in the file, or on standard input where no file is named: what it shows, or else the
 /// text of a no. Whichever of the two isn't read is left alone.
-pub fn found<'a, F: Folder, S: Source>(
+pub(crate) fn found<'a, F: Folder, S: Source>(
     alloc: Global,
     file: Option<&'a str>,
     folder: &mut F,
     input: &mut S,
-) -> Result<Result<ShownText, Vec<u8>>, Stop<'a>>
+) -> Result<Result<Quotient, Vec<u8>>, Stop<'a>>
     ensures found { let named = option_map (λ f. f.now) file.entry in
         IfOk result (FindsInfinite (AreGiven (S.left input.old) (F.files folder.old) named)) }
     ensures kept { F.files folder.new ≡ F.files folder.old }
@@ -105,36 +93,6 @@ pub fn found<'a, F: Folder, S: Source>(
     Ok(found)
 }
 
-/// The line of a whole game.
-fn whole_line(alloc: Global, game: &WholeGame) -> Result<String, Memory>
-    ensures { IfOk result (λ t. string_bytes t ≡ whole_line game.now.code) }
-{
-    let code = game.code().text(alloc)?;
-    let text = format!(in alloc; "infinite {code} whole\n")?;
-    Ok(text)
-}
-
-/// The line of what was found.
-fn yes(alloc: Global, found: &ShownText) -> Result<Said, Memory>
-    ensures line { IfOk result (λ s. s.text.items ≡ found_line found.now) }
-    ensures succeeds { IfOk result (λ s. s.succeeds ≡ true) }
-{
-    match found {
-        ShownText::Whole(game) => Ok(Said::done(whole_line(alloc, game)?)),
-        ShownText::Presented(quotient) => Ok(Said::done(yes_text(alloc, quotient)?)),
-    }
-}
-
-/// What is said of bytes: as a text of a whole game, or as a presentation, by their first word.
-pub fn said_of_bytes(alloc: Global, bytes: &[u8]) -> Result<Said, Memory>
-    ensures { IfOk result (λ s. TellsEither bytes.now s.text.items s.succeeds) }
-{
-    match judged(alloc, bytes)? {
-        Ok(found) => yes(alloc, &found),
-        Err(no) => Ok(Said::no(no)),
-    }
-}
-
 /// Checks the text in the file, or on standard input where no file is named: the line of the infinite
 /// quotient that it shows, or the text of a no. A text whose first word is `mqw` is checked as one of a
 /// whole game, and one whose first word is `mqp` as a presentation, which gets a no if its quotient is finite. Others are
@@ -146,7 +104,7 @@ pub fn infinite<'a, F: Folder, S: Source>(
     input: &mut S,
 ) -> Result<Said, Stop<'a>>
     ensures said { let named = option_map (λ f. f.now) file.entry in
-        IfOk result (λ s. ChecksEither (AreGiven (S.left input.old) (F.files folder.old) named)
+        IfOk result (λ s. ChecksInfinite (AreGiven (S.left input.old) (F.files folder.old) named)
         s.text.items s.succeeds) }
     ensures kept { F.files folder.new ≡ F.files folder.old }
     ensures stops { IfErr result (IsGivenCause (option_map (λ f. f.now) file.entry)
@@ -156,9 +114,6 @@ pub fn infinite<'a, F: Folder, S: Source>(
     ensures folder { is_some (option_map (λ f. f.now) file.entry) ≡ false
         → folder.new ≡ folder.old }
 {
-    let bytes = given_bytes(alloc, file, folder, input)?;
-    match said_of_bytes(alloc, &bytes) {
-        Ok(said) => Ok(said),
-        Err(Memory) => Err(Stop::Memory),
-    }
+    let found = found(alloc, file, folder, input)?;
+    Ok(line_said(alloc, found)?)
 }

@@ -56,6 +56,5 @@ pub fn explain<'a, F: Folder, S: Source>(
 {
     fronts_decide();
     let bytes = given_bytes(alloc, file, folder, input)?;
-    let said = explained(alloc, &bytes)?;
-    Ok(said)
+    Ok(explained(alloc, &bytes)?)
 }

@@ -1,43 +1,16 @@
-//! The answer in a position, out of a file.
-ghost use Rattle.std.specs.Prelude.{◌≡◌, true, false, IfOk, IfErr, IsErrOf, is_none, is_some, option_map};
+//! The answers in positions, by what a file shows.
+ghost use Rattle.std.specs.Prelude.{◌≡◌, false, IfOk, IfErr, IsErrOf, is_none, is_some, option_map};
+ghost use Rattle.command_results.specs.Lines.{AreLinesOf};
 ghost use Rattle.given_quotients.specs.Checks.{AreGiven, failed};
-ghost use Rattle.verdict_commands.specs.Plays.{PlaysFound, PlaysIn, PlaysInfinite};
+ghost use Rattle.position_commands.specs.Many.{AreFileOf, IsPlayLinesCause};
 ghost use Rattle.position_commands.specs.Plays.{IsPlayCause};
+ghost use Rattle.verdict_commands.specs.Checks.{PlaysInfinite, PlaysInfiniteLines};
 
-use crate::endless::{ShownText, found};
+use crate::endless::found;
 use command_results::{Said, Stop};
-use position_commands::{position_of, presented_played, whole_played};
-use positions::Position;
-use std::alloc::{AllocError, Global};
+use position_commands::{Question, lines_said, position_of, said_in};
+use std::alloc::Global;
 use streams::{Folder, Source};
-
-/// What is said in the position by what was found.
-pub(crate) fn played(
-    alloc: Global,
-    found: &ShownText,
-    position: &Position,
-) -> Result<Said, AllocError>
-    ensures { IfOk result (λ s. PlaysIn found.now position.now s.text.items s.succeeds) }
-{
-    match found {
-        ShownText::Whole(game) => whole_played(alloc, game, position),
-        ShownText::Presented(quotient) => presented_played(alloc, quotient, position),
-    }
-}
-
-/// The same, or the text of a no.
-fn said_in(
-    alloc: Global,
-    found: Result<ShownText, Vec<u8>>,
-    position: &Position,
-) -> Result<Said, AllocError>
-    ensures { IfOk result (λ s. PlaysFound found position.now s.text.items s.succeeds) }
-{
-    match found {
-        Ok(found) => played(alloc, &found, position),
-        Err(no) => Ok(Said::no(no)),
-    }
-}
 
 /// Answers in the position by the infinite quotient that the file, or standard input where no file is
 /// named, shows: with the first winning move, that each move loses, or that there is none; or says that
@@ -64,8 +37,25 @@ pub fn play_infinite<'a, F: Folder, S: Source>(
 {
     let position = position_of(alloc, position)?;
     let found = found(alloc, file, folder, input)?;
-    match said_in(alloc, found, &position) {
-        Ok(said) => Ok(said),
-        Err(_) => Err(Stop::Memory),
-    }
+    Ok(said_in(alloc, Question::Play, found, &position)?)
+}
+
+/// Answers in the position of each line of standard input by what the file shows, as [`play_infinite`]
+/// does in one; of a line that is no position it says so. It ends well if each line has an answer. Or it says why the
+/// file shows nothing, and standard input is left alone. The text is checked once, and first.
+pub fn play_infinite_lines<'a, F: Folder, S: Source>(
+    alloc: Global,
+    file: &'a str,
+    folder: &mut F,
+    input: &mut S,
+) -> Result<Said, Stop<'a>>
+    ensures plays { IfOk result (λ s. PlaysInfiniteLines (AreFileOf (F.files folder.old) file.entry.now)
+        (AreLinesOf (S.left input.old)) s.text.items s.succeeds) }
+    ensures kept { F.files folder.new ≡ F.files folder.old }
+    ensures stops { IfErr result (IsPlayLinesCause file.entry.now (AreLinesOf (S.left input.old))
+        (failed (S.failures input.old) (F.failed_reads folder.old))
+        (failed (S.failures input.new) (F.failed_reads folder.new))) }
+{
+    let found = found(alloc, Some(file), folder, input)?;
+    lines_said(alloc, found, input)
 }

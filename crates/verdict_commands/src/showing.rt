@@ -1,13 +1,15 @@
 //! `--show`: all that a text says of an infinite quotient.
 ghost use Rattle.std.specs.Prelude.{◌≡◌, false, IfOk, IfErr, is_none, is_some, option_map, true};
 ghost use Rattle.given_quotients.specs.Checks.{AreGiven, IsGivenCause, failed};
+ghost use Rattle.given_quotients.specs.Says.{SaysFound};
 ghost use Rattle.label_descriptions.specs.Whole.{IsWholeText};
-ghost use Rattle.verdict_commands.specs.Shown.{ShowsFound, ShowsInfinite, output_for};
+ghost use Rattle.verdict_commands.specs.Shown.{ShowsAs, ShowsInfinite, output_for};
 ghost use Rattle.label_descriptions.specs.Described.{presented_text_for};
 
-use crate::endless::{ShownText, found};
+use crate::endless::{found, no_text};
 use allocation::Memory;
 use command_results::{Said, Stop};
+use given_quotients::Quotient;
 use label_descriptions::{Output, presented_text, whole_text};
 use presented_checker::PresentedQuotient;
 use requests::Layout;
@@ -48,12 +50,13 @@ fn presentation_said(
 }
 
 /// What is said of what was found.
-fn said_of(alloc: Global, found: Result<ShownText, Vec<u8>>, layout: Layout) -> Result<Said, Memory>
-    ensures { IfOk result (λ s. ShowsFound layout found s.text.items s.succeeds) }
+fn said_of(alloc: Global, found: Result<Quotient, Vec<u8>>, layout: Layout) -> Result<Said, Memory>
+    ensures { IfOk result (λ s. SaysFound (ShowsAs layout) found s.text.items s.succeeds) }
 {
     match found {
-        Ok(ShownText::Whole(game)) => game_said(alloc, &game, layout),
-        Ok(ShownText::Presented(quotient)) => presentation_said(alloc, &quotient, layout),
+        Ok(Quotient::Whole(game)) => game_said(alloc, &game, layout),
+        Ok(Quotient::Presented(quotient)) => presentation_said(alloc, &quotient, layout),
+        Ok(Quotient::Finite(_)) => Ok(Said::no(no_text(alloc)?)),
         Err(no) => Ok(Said::no(no)),
     }
 }
@@ -79,8 +82,5 @@ pub fn show_infinite<'a, F: Folder, S: Source>(
         → folder.new ≡ folder.old }
 {
     let found = found(alloc, file, folder, input)?;
-    match said_of(alloc, found, layout) {
-        Ok(said) => Ok(said),
-        Err(Memory) => Err(Stop::Memory),
-    }
+    Ok(said_of(alloc, found, layout)?)
 }

@@ -2,7 +2,8 @@
 ghost use Rattle.std.specs.Prelude.{◌≡◌, false, IfOk, IfErr, is_none, is_some, option_map};
 ghost use Rattle.std.specs.String.{string_bytes};
 ghost use Rattle.given_quotients.specs.Checks.{AreGiven, IsGivenCause, failed};
-ghost use Rattle.verdict_commands.specs.Lines.{IsTailText, TailsFound, Tails, normal_line, tail_fault_line};
+ghost use Rattle.given_quotients.specs.Says.{SaysFound};
+ghost use Rattle.verdict_commands.specs.Lines.{IsTailText, Tails, normal_line, tail_fault_line};
 
 use allocation::Memory;
 use answers::Certified;
@@ -45,7 +46,7 @@ fn said_of(alloc: Global, certified: &Certified) -> Result<Said, Memory>
 
 /// What is said of what was found.
 fn said(alloc: Global, quotient: Result<Certified, Vec<u8>>) -> Result<Said, Memory>
-    ensures { IfOk result (λ s. TailsFound quotient s.text.items s.succeeds) }
+    ensures { IfOk result (λ s. SaysFound IsTailText quotient s.text.items s.succeeds) }
 {
     match quotient {
         Ok(certified) => said_of(alloc, &certified),
@@ -76,8 +77,5 @@ pub fn tail<'a, F: Folder, S: Source>(
         → folder.new ≡ folder.old }
 {
     let quotient = certified(alloc, file, limit, folder, input)?;
-    match said(alloc, quotient) {
-        Ok(said) => Ok(said),
-        Err(Memory) => Err(Stop::Memory),
-    }
+    Ok(said(alloc, quotient)?)
 }

@@ -1,45 +1,17 @@
 //! `verify`: the verdict on a text of any kind.
 ghost use Rattle.std.specs.Prelude.{◌≡◌, false, IfOk, IfErr, is_none, is_some, option_map};
-ghost use Rattle.given_quotients.specs.Checks.{AreGiven, IsGivenCause, SaysVerdict, failed};
-ghost use Rattle.verdict_commands.specs.Verifies.{SaysOfAny, Verifies};
+ghost use Rattle.given_quotients.specs.Checks.{AreGiven, IsGivenCause, failed};
+ghost use Rattle.verdict_commands.specs.Verifies.{Verifies};
 
-use crate::{presented_said, said_of_bytes};
-use allocation::Memory;
-use checker::{Checker, verdicts_are_true};
+use crate::quotients::line_said;
 use command_results::{Said, Stop};
-use given_quotients::{begins_presented, begins_whole, fronts_decide, given_bytes};
+use given_quotients::quotient_of;
 use std::alloc::Global;
 use streams::{Folder, Source};
-use verdict_texts::checked_bytes;
 
-/// What `check` says of the bytes.
-fn finite_said(alloc: Global, bytes: &[u8], limit: u32) -> Result<Said, Memory>
-    ensures { IfOk result (λ s. SaysVerdict bytes.now limit s.text.items s.succeeds) }
-{
-    verdicts_are_true();
-    let verdict = checked_bytes(&Checker, alloc, bytes, limit)?;
-    Ok(Said {
-        text: verdict.text.into_bytes(),
-        succeeds: verdict.accepted,
-    })
-}
-
-/// What the command says that checks such a text.
-fn said(alloc: Global, bytes: &[u8], limit: u32) -> Result<Said, Memory>
-    ensures { IfOk result (λ s. SaysOfAny bytes.now limit s.text.items s.succeeds) }
-{
-    if begins_whole(bytes) {
-        return said_of_bytes(alloc, bytes);
-    }
-    if begins_presented(bytes) {
-        return presented_said(alloc, bytes);
-    }
-    finite_said(alloc, bytes, limit)
-}
-
-/// Judges the text in the file, or on standard input where no file is named, by its first word: says of
-/// a text of a whole game, `mqw`, what `infinite` says, of a presentation, `mqp`, whether it is right, and of every other
-/// text what `check` says. Whichever of the two isn't read is left alone.
+/// Judges the text in the file, or on standard input where no file is named, by its first word: the line of the quotient
+/// that it gives under the limit, as a text of a whole game, `mqw`, as a presentation, `mqp`, or else as a certificate; or
+/// why it gives none. Whichever of the two isn't read is left alone.
 pub fn verify<'a, F: Folder, S: Source>(
     alloc: Global,
     file: Option<&'a str>,
@@ -58,11 +30,6 @@ pub fn verify<'a, F: Folder, S: Source>(
     ensures folder { is_some (option_map (λ f. f.now) file.entry) ≡ false
         → folder.new ≡ folder.old }
 {
-    verdicts_are_true();
-    fronts_decide();
-    let bytes = given_bytes(alloc, file, folder, input)?;
-    match said(alloc, &bytes, limit) {
-        Ok(said) => Ok(said),
-        Err(Memory) => Err(Stop::Memory),
-    }
+    let found = quotient_of(alloc, file, limit, folder, input)?;
+    Ok(line_said(alloc, found)?)
 }

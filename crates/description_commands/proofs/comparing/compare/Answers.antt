@@ -28,18 +28,18 @@ returns-in_ok-a-in-Ok-clause-compares g c =
     c.in_ok-quotient.ensures.kept h))
     c.compare_beside.ensures.compares
 
-pub returns-in_ok-said-in-Err-clause-compares : goal.returns-in_ok-said-in-Err-clause-compares
-returns-in_ok-said-in-Err-clause-compares g c =
+pub returns-in_ok-no_of-in-Err-clause-compares : goal.returns-in_ok-no_of-in-Err-clause-compares
+returns-in_ok-no_of-in-Err-clause-compares g c =
     let one = option_map (λ (f : Bor (List ℕ)). f.now) c.args.first in
     let other = option_map (λ (f : Bor (List ℕ)). f.now) c.args.second in
     let left = g.S.Source.left c.args.input.now in
     let files = g.F.Folder.files c.args.folder.now in
     compares_no (AreGiven left files one) (AreGiven (left_behind one left) files other) c.args.limit
-    c.in_ok-quotient.field-0 c.in-Err.no c.in_ok-said-in-Err.said.text.items
-    c.in_ok-said-in-Err.said.succeeds c.in_ok-quotient.ensures.found c.in-Err.is
-    (c.in_ok-said-in-Err.ensures.text
+    c.in_ok-quotient.field-0 c.in-Err.no c.in_ok-no_of-in-Err.field-0.text.items
+    c.in_ok-no_of-in-Err.field-0.succeeds c.in_ok-quotient.ensures.found c.in-Err.is
+    (c.in_ok-no_of-in-Err.ensures.text
     ∙ ap (λ (t : List ℕ). codes "first: " ++ t) c.deref.ensures.value)
-    c.in_ok-said-in-Err.ensures.succeeds
+    c.in_ok-no_of-in-Err.ensures.succeeds
 
 pub returns-in_ok-a-in-Ok-clause-order : goal.returns-in_ok-a-in-Ok-clause-order
 returns-in_ok-a-in-Ok-clause-order g c =

@@ -1,6 +1,6 @@
 use Rattle.description_commands.proofs.Found.{describes_found}
 use Rattle.description_commands.proofs.describing.describe.Goals as goal
 
-pub returns-in-Ok-clause-describes : goal.returns-in-Ok-clause-describes
-returns-in-Ok-clause-describes g c =
-    describes_found _ c.args.limit c.args.form c.args.output _ _ _ _ c.in_ok-found.ensures.found c.in-Ok.ensures
+pub returns-clause-describes : goal.returns-clause-describes
+returns-clause-describes g c =
+    describes_found _ c.args.limit c.args.form c.args.output _ _ _ _ c.in_ok-found.ensures.found c.in_ok-noted.ensures

@@ -1,7 +1,9 @@
-use Rattle.description_commands.proofs.Quotients.{shows_found}
+use Rattle.given_quotients.proofs.Says.{says_given}
+use Rattle.description_commands.specs.Shown.{ShowsOf}
 use Rattle.description_commands.proofs.showing.show.Goals as goal
 
-pub returns-in-Ok-clause-shows : goal.returns-in-Ok-clause-shows
-returns-in-Ok-clause-shows g c =
-    shows_found _ c.args.limit _ _ _
-    c.in_ok-found.ensures.found c.in-Ok.ensures
+pub returns-clause-shows : goal.returns-clause-shows
+returns-clause-shows g c =
+    let said = c.in_ok-shown.field-0 in
+    says_given ShowsOf _ _ c.in_ok-found.found said.text.items said.succeeds c.in_ok-found.ensures.found
+    c.in_ok-shown.ensures

@@ -1,24 +1,24 @@
-use Rattle.std.proofs.Common.{ap, arith, refl, subst, ℕ, List, Option}
-use Rattle.command_results.specs.Lines.{AreLinesOf}
-use Rattle.position_commands.proofs.Found.{plays_quotient, plays_no}
+use Rattle.std.proofs.Common.{ap, inr, refl, subst}
+use Rattle.std.proofs.lemmas.Result.{IfErr-weaker, IfOk-weaker}
+use Rattle.command_results.specs.Lines.{AreLinesOf, IsLinesCause}
+use Rattle.given_quotients.specs.Checks.{Failed}
+use Rattle.position_commands.proofs.Answered.{answers_given}
 use Rattle.position_commands.proofs.many.play_lines.Goals as goal
 
-pub returns-in_ok-said-in-Ok-clause-plays : goal.returns-in_ok-said-in-Ok-clause-plays
-returns-in_ok-said-in-Ok-clause-plays g c =
-    let lines = c.in_ok-lines-in-Ok.lines in
-    let left = ap g.S.Source.left (c.in_ok-quotient.ensures.input refl) in
-    plays_quotient _ (AreLinesOf (g.S.Source.left c.args.input.now)) c.args.limit
-    c.in_ok-quotient.field-0 _ lines.items c.deref.result.now _ _ c.in_ok-quotient.ensures.found
-    c.in-Ok.is
-    (subst (λ (l : Option (List ℕ)). AreLinesOf l lines.items) left
-    c.in_ok-lines-in-Ok.ensures.bytes)
-    (let few = c.in_ok-lines-in-Ok.ensures.bound in
-    let long = lines.ok in
-    omega (arith, few, long))
-    c.deref.ensures.value c.in_ok-said-in-Ok.ensures
+pub returns-clause-plays : goal.returns-clause-plays
+returns-clause-plays g c =
+    IfOk-weaker c.lines_said.result _ _
+    (λ s says. answers_given _ _ _ _ c.in_ok-found.found s.text.items s.succeeds
+    (ap g.S.Source.left (c.in_ok-found.ensures.input refl)) c.in_ok-found.ensures.found says)
+    c.lines_said.ensures.says
 
-pub returns-in-Err-clause-plays : goal.returns-in-Err-clause-plays
-returns-in-Err-clause-plays g c =
-    plays_no _ (AreLinesOf (g.S.Source.left c.args.input.now)) c.args.limit
-    c.in_ok-quotient.field-0 c.in-Err.no c.no.result.text.items c.no.result.succeeds
-    c.in_ok-quotient.ensures.found c.in-Err.is (ap (λ t. t.items) c.no.ensures.text) c.no.ensures.succeeds
+pub returns-clause-stops : goal.returns-clause-stops
+returns-clause-stops g c =
+    IfErr-weaker c.lines_said.result _ _
+    (λ stop cause. inr (
+      subst (λ i. IsLinesCause (AreLinesOf (g.S.Source.left i)) (g.S.Source.failures i)
+          (g.S.Source.failures c.lines_said.new.input) stop)
+          (c.in_ok-found.ensures.input refl) cause,
+      ap (λ (f : Failed). f.files) c.in_ok-found.ensures.succeeds,
+    ))
+    c.lines_said.ensures.stops

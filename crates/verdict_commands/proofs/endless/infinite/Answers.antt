@@ -1,10 +1,9 @@
-use Rattle.std.proofs.Common.{ℕ, List, subst}
-use Rattle.verdict_commands.specs.Told.{TellsEither}
-use Rattle.verdict_commands.proofs.InfiniteGiven.{tells_all}
+use Rattle.given_quotients.proofs.Says.{says_given}
+use Rattle.verdict_commands.specs.QuotientLines.{TellsQuotient}
 use Rattle.verdict_commands.proofs.endless.infinite.Goals as goal
 
-pub returns-in-Ok-clause-said : goal.returns-in-Ok-clause-said
-returns-in-Ok-clause-said g c =
-    tells_all _ c.in_ok-bytes.bytes.items _ _ c.in_ok-bytes.ensures.bytes
-    (subst (λ (b : List ℕ). TellsEither b c.in-Ok.said.text.items c.in-Ok.said.succeeds) c.deref.ensures.value
-    c.in-Ok.ensures)
+pub returns-clause-said : goal.returns-clause-said
+returns-clause-said g c =
+    let said = c.in_ok-line_said.field-0 in
+    says_given TellsQuotient _ _ c.in_ok-found.found said.text.items said.succeeds c.in_ok-found.ensures.found
+    c.in_ok-line_said.ensures

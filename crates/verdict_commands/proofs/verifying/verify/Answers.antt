@@ -1,11 +1,9 @@
-use Rattle.std.proofs.Common.{ℕ, List, subst}
-use Rattle.verdict_commands.specs.Verifies.{SaysOfAny}
-use Rattle.verdict_commands.proofs.Fronts.{verifies_all}
+use Rattle.given_quotients.proofs.Says.{says_given}
+use Rattle.verdict_commands.specs.QuotientLines.{TellsQuotient}
 use Rattle.verdict_commands.proofs.verifying.verify.Goals as goal
 
-pub returns-in-Ok-clause-verifies : goal.returns-in-Ok-clause-verifies
-returns-in-Ok-clause-verifies g c =
-    verifies_all c.verdicts_are_true.ensures c.fronts_decide.ensures.same _ c.in_ok-bytes.bytes.items c.args.limit _ _
-    c.in_ok-bytes.ensures.bytes
-    (subst (λ (bytes : List ℕ). SaysOfAny bytes c.args.limit c.in-Ok.said.text.items c.in-Ok.said.succeeds)
-    c.deref.ensures.value c.in-Ok.ensures)
+pub returns-clause-verifies : goal.returns-clause-verifies
+returns-clause-verifies g c =
+    let said = c.in_ok-line_said.field-0 in
+    says_given TellsQuotient _ _ c.in_ok-found.found said.text.items said.succeeds c.in_ok-found.ensures.found
+    c.in_ok-line_said.ensures

@@ -1,7 +1,7 @@
 use Rattle.std.proofs.Common.{sym, ap, ◌∙◌}
-use Rattle.verdict_commands.specs.PresentedTold.{endless_line, line_by}
+use Rattle.verdict_commands.specs.QuotientLines.{endless_line, line_by}
 use Rattle.verdict_commands.proofs.Printed.{if-ok}
-use Rattle.verdict_commands.proofs.presented.yes_text.Goals as goal
+use Rattle.verdict_commands.proofs.quotients.yes_text.Goals as goal
 
 pub returns-in-Some : goal.returns-in-Some
 returns-in-Some c =

@@ -1,10 +1,12 @@
--- What is said of a presentation: the text that is printed, and whether that is a yes. This project's own.
-use Rattle.std.specs.Prelude.{◌≡◌, ◌++◌, ◌+◌, ◌-◌, ◌==◌, if◌then◌else◌, ℕ, Option, Some, None, Bool, true, false, List, length, codes, decimal}
+-- The lines of quotients. This project's own.
+use Rattle.std.specs.Prelude.{◌≡◌, ◌++◌, ◌+◌, ◌-◌, ◌==◌, if◌then◌else◌, ℕ, Option, Some, None, Bool, true, List, length, codes, decimal}
 use Rattle.octal_code.specs.Text.{code_text}
 use Rattle.presented_text.specs.Said.{PresentedSaid}
-use Rattle.presented_text.specs.Spelling.{SpellsPresented}
-use Rattle.presented_checker.specs.Refused.{Kept, IsRight}
-use Rattle.given_quotients.specs.Told.{TellsRefused}
+use Rattle.presented_checker.specs.Refused.{Kept}
+use Rattle.given_quotients.specs.Told.{whole_line}
+use Rattle.given_quotients.specs.declared.giving.Quotient.{Quotient}
+use Rattle.given_quotients.specs.declared.giving.Quotient.TheVariants.{Finite, Whole, Presented}
+use Rattle.verdict_texts.specs.Lines.{yes_line}
 
 -- The heaps: the last one that has a word of its own; or in a whole game the heap from which on words repeat, and after
 -- how many heaps they do.
@@ -31,10 +33,12 @@ line_by c None = endless_line c (length c.relations)
 abbrev pub presented_line : Kept → List ℕ
 presented_line k = line_by k.said k.order
 
--- The text is that of an answer which is true of the bytes, and a yes exactly if the answer is one: they spell a
--- presentation that is right, or they are refused.
-pub data TellsPresented (bytes : List ℕ) : List ℕ → Bool → Type 0 where
-  Yes : {text : List ℕ} {accepted : Bool} (k : Kept) → SpellsPresented bytes k.said → IsRight k
-      → text ≡ presented_line k → accepted ≡ true → TellsPresented bytes text accepted
-  No : {text : List ℕ} {accepted : Bool} → TellsRefused bytes text → accepted ≡ false
-      → TellsPresented bytes text accepted
+-- the line of a quotient of any kind
+abbrev pub quotient_line : Quotient → List ℕ
+quotient_line (Finite c) = yes_line c
+quotient_line (Whole c) = whole_line c.code
+quotient_line (Presented k) = presented_line k
+
+-- the text is that line, and a yes
+abbrev pub TellsQuotient : Quotient → List ℕ → Bool → Type 0
+TellsQuotient q text accepted = (text ≡ quotient_line q) × (accepted ≡ true)

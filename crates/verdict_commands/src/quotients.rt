@@ -1,14 +1,18 @@
-//! What is said of bytes that begin as a presentation does.
+//! The lines of quotients.
 ghost use Rattle.std.specs.Prelude.{◌≡◌, ◌+◌, ◌-◌, IfOk};
 ghost use Rattle.std.specs.String.{string_bytes};
-ghost use Rattle.verdict_commands.specs.PresentedTold.{TellsPresented, finite_line, endless_line, presented_line};
-ghost use Rattle.verdict_commands.specs.PresentedTold as told;
+ghost use Rattle.given_quotients.specs.Says.{SaysFound};
+ghost use Rattle.given_quotients.specs.Told.{whole_line};
+ghost use Rattle.verdict_commands.specs.QuotientLines.{TellsQuotient, endless_line, finite_line, presented_line, quotient_line};
+ghost use Rattle.verdict_commands.specs.QuotientLines as told;
 
 use allocation::Memory;
 use command_results::Said;
-use given_quotients::judged_presented;
+use given_quotients::Quotient;
 use presented_checker::PresentedQuotient;
 use std::alloc::Global;
+use verdict_texts::verdict_line;
+use whole_checker::WholeGame;
 
 /// The heap from which on the words of a whole game repeat.
 fn start_of(quotient: &PresentedQuotient) -> u32
@@ -66,16 +70,32 @@ pub fn yes_text(alloc: Global, quotient: &PresentedQuotient) -> Result<String, M
     }
 }
 
-/// What is said of the bytes: the line of the quotient, or the text of a no.
-pub fn presented_said(alloc: Global, bytes: &[u8]) -> Result<Said, Memory>
-    ensures { IfOk result (λ s. TellsPresented bytes.now s.text.items s.succeeds) }
+/// The line of a whole game.
+fn whole_text(alloc: Global, game: &WholeGame) -> Result<String, Memory>
+    ensures { IfOk result (λ t. string_bytes t ≡ whole_line game.now.code) }
 {
-    let found = judged_presented(alloc, bytes)?;
+    let code = game.code().text(alloc)?;
+    let text = format!(in alloc; "infinite {code} whole\n")?;
+    Ok(text)
+}
+
+/// The line of a quotient.
+fn quotient_text(alloc: Global, quotient: &Quotient) -> Result<String, Memory>
+    ensures { IfOk result (λ t. string_bytes t ≡ quotient_line quotient.now) }
+{
+    match quotient {
+        Quotient::Finite(certified) => verdict_line(alloc, Ok(certified)),
+        Quotient::Whole(game) => whole_text(alloc, game),
+        Quotient::Presented(presented) => yes_text(alloc, presented),
+    }
+}
+
+/// What is said of what was found: the line of the quotient, or the text of a no.
+pub(crate) fn line_said(alloc: Global, found: Result<Quotient, Vec<u8>>) -> Result<Said, Memory>
+    ensures { IfOk result (λ s. SaysFound TellsQuotient found s.text.items s.succeeds) }
+{
     match found {
-        Ok(quotient) => {
-            let text = yes_text(alloc, &quotient)?;
-            Ok(Said::done(text))
-        }
+        Ok(quotient) => Ok(Said::done(quotient_text(alloc, &quotient)?)),
         Err(no) => Ok(Said::no(no)),
     }
 }
