@@ -1,16 +1,14 @@
 //! Contexts with which rounds begin.
+use crate::heap_words::{HeapWord, ONE, exponent, length, lengthened, with_exponent};
 use crate::table::WordTable;
-use crate::{ONE, exponent, lengthened, with_exponent};
-use normal_forms::Exponents;
-use presentations::LETTERS;
 use quotient_search::Halt;
 use running_pairs::{at, rest};
 use std::alloc::Allocator;
 
 /// How many powers of the last generator there are, and how many of it beside others.
-const POWERS: u16 = 7;
+const POWERS: u8 = 7;
 
-const FEW_POWERS: u16 = 3;
+const FEW_POWERS: u8 = 3;
 
 /// How many of the contexts before are looked at beside powers.
 const MOST_BEFORE: usize = 40;
@@ -23,9 +21,9 @@ const DRAWN: usize = 120;
 const DRAWN_FAR: usize = 1000;
 
 /// How far powers of a generator that runs go beside at most two letters, and beside more.
-const FAR: u16 = 44;
+const FAR: u8 = 44;
 
-const NEARER: u16 = 30;
+const NEARER: u8 = 30;
 
 /// Numbers that look as if they were drawn, always the same.
 #[derive(Clone, Copy)]
@@ -44,17 +42,17 @@ impl Draws {
     }
 
     /// The next exponent below a bound.
-    fn exponent_below(&mut self, bound: u16) -> u16 {
-        u16::try_from(self.below(bound as usize)).unwrap_or(0)
+    fn exponent_below(&mut self, bound: u8) -> u8 {
+        u8::try_from(self.below(bound as usize)).unwrap_or(0)
     }
 }
 
 /// Takes up a word beside so many powers of a letter.
 fn add_powers<A: Allocator + Copy>(
     contexts: &mut WordTable<A>,
-    word: &Exponents,
+    word: &HeapWord,
     letter: usize,
-    most: u16,
+    most: u8,
 ) -> Result<(), Halt> {
     let count = exponent(word, letter);
     for more in 0..most.saturating_add(1) {
@@ -64,7 +62,7 @@ fn add_powers<A: Allocator + Copy>(
 }
 
 /// A word of few letters, that is drawn.
-fn drawn_word(draws: &mut Draws, count: usize) -> Exponents {
+fn drawn_word(draws: &mut Draws, count: usize) -> HeapWord {
     let last = count.saturating_sub(1);
     let mut word = with_exponent(&ONE, last, draws.exponent_below(4));
     for _ in 0..draws.below(5) {
@@ -76,7 +74,7 @@ fn drawn_word(draws: &mut Draws, count: usize) -> Exponents {
 /// Contexts for the first `count` generators, from those before the last one came.
 pub fn first_contexts<A: Allocator + Copy>(
     alloc: A,
-    before: &[Exponents],
+    before: &[HeapWord],
     count: usize,
 ) -> Result<WordTable<A>, Halt> {
     let last = count.saturating_sub(1);
@@ -101,19 +99,10 @@ pub fn first_contexts<A: Allocator + Copy>(
     Ok(contexts)
 }
 
-/// How many letters a word has in all.
-fn length(word: &Exponents) -> usize {
-    let mut sum = 0usize;
-    for letter in 0..LETTERS {
-        sum = sum.saturating_add(exponent(word, letter) as usize);
-    }
-    sum
-}
-
 /// Takes up a word beside powers of each generator that runs.
 fn add_far<A: Allocator + Copy>(
     contexts: &mut WordTable<A>,
-    word: &Exponents,
+    word: &HeapWord,
     running: &[usize],
 ) -> Result<(), Halt> {
     let most = if length(word) <= 2 { FAR } else { NEARER };
@@ -124,7 +113,7 @@ fn add_far<A: Allocator + Copy>(
 }
 
 /// A bound of exponents, that is drawn.
-fn drawn_bound(draws: &mut Draws) -> u16 {
+fn drawn_bound(draws: &mut Draws) -> u8 {
     match draws.below(3) {
         0 => 5,
         1 => 13,
@@ -133,7 +122,7 @@ fn drawn_bound(draws: &mut Draws) -> u16 {
 }
 
 /// A word beside powers of up to three generators that run, all drawn.
-fn drawn_far(draws: &mut Draws, before: &[Exponents], running: &[usize]) -> Exponents {
+fn drawn_far(draws: &mut Draws, before: &[HeapWord], running: &[usize]) -> HeapWord {
     let place = draws.below(before.len().saturating_mul(2));
     let mut word = before.get(place).copied().unwrap_or(ONE);
     for _ in 0..draws.below(3).saturating_add(1) {
@@ -147,7 +136,7 @@ fn drawn_far(draws: &mut Draws, before: &[Exponents], running: &[usize]) -> Expo
 /// Contexts beside generators that run, from those before.
 pub fn far_contexts<A: Allocator + Copy>(
     alloc: A,
-    before: &[Exponents],
+    before: &[HeapWord],
     count: usize,
     running: &[usize],
 ) -> Result<WordTable<A>, Halt> {

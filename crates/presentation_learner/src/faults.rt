@@ -1,10 +1,10 @@
 //! Rules that are wrong: traced down from positions at which outcomes contradict each other.
 use crate::forms::Forms;
-use crate::monomials::{beside, is_before, product, shortened_by};
+use crate::heap_words::{
+    GENERATORS, HeapRule, HeapWord, beside, changed_by, exponent, is_before, is_in, lengthened,
+    shortened_by,
+};
 use crate::part::Rest;
-use crate::{exponent, is_in, lengthened};
-use normal_forms::{Exponents, Rule};
-use presentations::LETTERS;
 use quotient_search::{Halt, Work};
 use running_pairs::{NONE, byte, put_byte};
 use std::alloc::Allocator;
@@ -16,14 +16,16 @@ const DEEPEST: usize = 400;
 #[derive(Drop)]
 pub struct Blamed<A: Allocator> {
     marks: Vec<u8, A>,
-    pub contexts: Vec<Exponents, A>,
+    pub contexts: Vec<HeapWord, A>,
+    /// The number of the rule of each context, or `NONE`.
+    pub rules: Vec<usize, A>,
 }
 
 /// Whether a position is P by a rule whose left word is in it.
-fn is_p_by<A: Allocator + Copy>(
+pub fn is_p_by<A: Allocator + Copy>(
     forms: &mut Forms<'_, A>,
-    rule: &Rule,
-    word: &Exponents,
+    rule: &HeapRule,
+    word: &HeapWord,
     work: &mut Work,
 ) -> Result<bool, Halt> {
     let right = forms.form_of(&rule.right, work)?;
@@ -33,7 +35,7 @@ fn is_p_by<A: Allocator + Copy>(
 /// Whether the outcome of a position's moves isn't that by some rule.
 fn is_torn<A: Allocator + Copy>(
     forms: &mut Forms<'_, A>,
-    word: &Exponents,
+    word: &HeapWord,
     work: &mut Work,
 ) -> Result<bool, Halt> {
     let rules = forms.rules;
@@ -51,13 +53,13 @@ fn is_torn<A: Allocator + Copy>(
 /// A torn position that a rule makes of a position, if there is one.
 fn torn_by_rules<A: Allocator + Copy>(
     forms: &mut Forms<'_, A>,
-    word: &Exponents,
+    word: &HeapWord,
     work: &mut Work,
-) -> Result<Option<Exponents>, Halt> {
+) -> Result<Option<HeapWord>, Halt> {
     let rules = forms.rules;
     for rule in rules.iter() {
         if is_in(&rule.left, word) {
-            let below = product(&beside(word, &rule.left), &rule.right);
+            let below = changed_by(rule, word);
             if is_torn(forms, &below, work)? {
                 return Ok(Some(below));
             }
@@ -67,7 +69,7 @@ fn torn_by_rules<A: Allocator + Copy>(
 }
 
 /// The position with what a move leaves in place of nothing.
-fn with_rest(word: &Exponents, rest: &Rest) -> Exponents {
+fn with_rest(word: &HeapWord, rest: &Rest) -> HeapWord {
     let mut more = *word;
     for generator in rest.iter() {
         if *generator != NONE {
@@ -80,10 +82,10 @@ fn with_rest(word: &Exponents, rest: &Rest) -> Exponents {
 /// A torn position that a move in one heap of a position makes, if there is one.
 fn torn_by_moves<A: Allocator + Copy>(
     forms: &mut Forms<'_, A>,
-    word: &Exponents,
+    word: &HeapWord,
     letter: usize,
     work: &mut Work,
-) -> Result<Option<Exponents>, Halt> {
+) -> Result<Option<HeapWord>, Halt> {
     let part = forms.part;
     let without = shortened_by(word, letter);
     for rest in part.rests_of(letter).iter() {
@@ -98,11 +100,11 @@ fn torn_by_moves<A: Allocator + Copy>(
 /// A torn position just below a position, if there is one.
 fn torn_below<A: Allocator + Copy>(
     forms: &mut Forms<'_, A>,
-    word: &Exponents,
+    word: &HeapWord,
     work: &mut Work,
-) -> Result<Option<Exponents>, Halt> {
+) -> Result<Option<HeapWord>, Halt> {
     let mut below = torn_by_rules(forms, word, work)?;
-    for letter in 0..LETTERS {
+    for letter in 0..GENERATORS {
         if below.is_some() {
             break;
         }
@@ -116,9 +118,9 @@ fn torn_below<A: Allocator + Copy>(
 /// From a position that is torn to one below which none is, and another position itself.
 fn least_torn<A: Allocator + Copy>(
     forms: &mut Forms<'_, A>,
-    word: &Exponents,
+    word: &HeapWord,
     work: &mut Work,
-) -> Result<Exponents, Halt> {
+) -> Result<HeapWord, Halt> {
     let mut least = *word;
     if !is_torn(forms, word, work)? {
         return Ok(least);
@@ -138,6 +140,7 @@ impl<A: Allocator + Copy> Blamed<A> {
         Ok(Blamed {
             marks: vec![in alloc; 0u8; rules]?,
             contexts: Vec::new(alloc),
+            rules: Vec::new(alloc),
         })
     }
 
@@ -145,9 +148,9 @@ impl<A: Allocator + Copy> Blamed<A> {
     pub fn blame(
         &mut self,
         forms: &mut Forms<'_, A>,
-        word: &Exponents,
+        word: &HeapWord,
         work: &mut Work,
-    ) -> Result<Exponents, Halt> {
+    ) -> Result<HeapWord, Halt> {
         let least = least_torn(forms, word, work)?;
         let rules = forms.rules;
         for (number, rule) in rules.iter().enumerate() {
@@ -163,13 +166,20 @@ impl<A: Allocator + Copy> Blamed<A> {
 
 impl<A: Allocator> Blamed<A> {
     /// Takes a rule for wrong beside a word.
-    pub fn add(&mut self, rule: usize, context: Exponents) -> Result<(), Halt> {
+    pub fn add(&mut self, rule: usize, context: HeapWord) -> Result<(), Halt> {
         put_byte(&mut self.marks, rule, 1);
+        self.rules.push(rule)?;
+        self.contexts.push(context).map_err(Halt::from)
+    }
+
+    /// Takes up a context without a rule.
+    pub fn see(&mut self, context: HeapWord) -> Result<(), Halt> {
+        self.rules.push(NONE)?;
         self.contexts.push(context).map_err(Halt::from)
     }
 
     /// Takes for wrong each rule whose left word is in a position.
-    pub fn add_all_in(&mut self, rules: &[Rule], word: &Exponents) -> Result<(), Halt> {
+    pub fn add_all_in(&mut self, rules: &[HeapRule], word: &HeapWord) -> Result<(), Halt> {
         for (number, rule) in rules.iter().enumerate() {
             if is_in(&rule.left, word) {
                 self.add(number, beside(word, &rule.left))?;
@@ -181,9 +191,9 @@ impl<A: Allocator> Blamed<A> {
     /// Takes for wrong each rule whose left word comes before a position.
     pub fn add_all_before(
         &mut self,
-        rules: &[Rule],
+        rules: &[HeapRule],
         weights: &[usize],
-        word: &Exponents,
+        word: &HeapWord,
     ) -> Result<(), Halt> {
         for (number, rule) in rules.iter().enumerate() {
             if is_before(weights, &rule.left, word) {

@@ -1,9 +1,9 @@
 //! Normal forms by rules that are taken for right, and the outcomes of play on them.
-use crate::monomials::{beside, product, rule_in, shortened_by};
+use crate::heap_words::{
+    HeapRule, HeapWord, ONE, changed_by, exponent, first_in, lengthened, shortened_by,
+};
 use crate::part::{Part, Rest};
 use crate::table::WordTable;
-use crate::{ONE, exponent, lengthened};
-use normal_forms::{Exponents, Rule};
 use quotient_search::{Halt, Work};
 use running_pairs::{NONE, at, byte, put, put_byte};
 use std::alloc::Allocator;
@@ -33,7 +33,7 @@ pub struct Forms<'a, A: Allocator> {
     alloc: A,
     pub part: &'a Part<A>,
     pub count: usize,
-    pub rules: &'a [Rule],
+    pub rules: &'a [HeapRule],
     pub table: WordTable<A>,
     /// For each form and generator the form of both together, or `NONE`.
     steps: Vec<usize, A>,
@@ -46,7 +46,7 @@ impl<'a, A: Allocator + Copy> Forms<'a, A> {
         alloc: A,
         part: &'a Part<A>,
         count: usize,
-        rules: &'a [Rule],
+        rules: &'a [HeapRule],
     ) -> Result<Forms<'a, A>, Halt> {
         let mut forms = Forms {
             alloc,
@@ -64,7 +64,7 @@ impl<'a, A: Allocator + Copy> Forms<'a, A> {
 
 impl<A: Allocator + Copy> Forms<'_, A> {
     /// The number of a normal form.
-    fn put(&mut self, form: &Exponents) -> Result<usize, Halt> {
+    fn put(&mut self, form: &HeapWord) -> Result<usize, Halt> {
         let before = self.table.words.len();
         let number = self.table.add(form)?;
         if number >= before {
@@ -79,14 +79,17 @@ impl<A: Allocator + Copy> Forms<'_, A> {
     }
 
     /// A word by the rules, until none is in it.
-    fn reduced(&self, word: Exponents, work: &mut Work) -> Result<Exponents, Halt> {
+    fn reduced(&self, word: HeapWord, work: &mut Work) -> Result<HeapWord, Halt> {
         let mut form = word;
         for _ in 0..u64::MAX {
             work.spend(self.rules.len().saturating_mul(4).saturating_add(40))?;
-            let Some(rule) = rule_in(self.rules, &form) else {
+            let Some(number) = first_in(self.rules, &form) else {
                 return Ok(form);
             };
-            form = product(&beside(&form, &rule.left), &rule.right);
+            let Some(rule) = self.rules.get(number) else {
+                return Ok(form);
+            };
+            form = changed_by(rule, &form);
         }
         Err(Halt::Work)
     }
@@ -110,7 +113,7 @@ impl<A: Allocator + Copy> Forms<'_, A> {
         &mut self,
         form: usize,
         letter: usize,
-        often: u16,
+        often: u8,
         work: &mut Work,
     ) -> Result<usize, Halt> {
         let mut to = form;
@@ -121,7 +124,7 @@ impl<A: Allocator + Copy> Forms<'_, A> {
     }
 
     /// The normal form of a form beside a word.
-    pub fn times(&mut self, form: usize, word: &Exponents, work: &mut Work) -> Result<usize, Halt> {
+    pub fn times(&mut self, form: usize, word: &HeapWord, work: &mut Work) -> Result<usize, Halt> {
         work.spend(100)?;
         let mut to = form;
         for letter in 0..self.count {
@@ -145,7 +148,7 @@ impl<A: Allocator + Copy> Forms<'_, A> {
     }
 
     /// The normal form of a word.
-    pub fn form_of(&mut self, word: &Exponents, work: &mut Work) -> Result<usize, Halt> {
+    pub fn form_of(&mut self, word: &HeapWord, work: &mut Work) -> Result<usize, Halt> {
         let known = self.table.find(word);
         if known != NONE {
             return Ok(known);
@@ -154,7 +157,7 @@ impl<A: Allocator + Copy> Forms<'_, A> {
     }
 
     /// Whether a move in one heap of a position wins, unless that isn't known yet.
-    fn seen_at(&mut self, word: &Exponents, letter: usize, work: &mut Work) -> Result<Seen, Halt> {
+    fn seen_at(&mut self, word: &HeapWord, letter: usize, work: &mut Work) -> Result<Seen, Halt> {
         let part = self.part;
         let from = self.form_of(&shortened_by(word, letter), work)?;
         for rest in part.rests_of(letter).iter() {
@@ -170,7 +173,7 @@ impl<A: Allocator + Copy> Forms<'_, A> {
     }
 
     /// What the moves of a position show.
-    fn seen(&mut self, word: &Exponents, work: &mut Work) -> Result<Seen, Halt> {
+    fn seen(&mut self, word: &HeapWord, work: &mut Work) -> Result<Seen, Halt> {
         let mut seen = Seen::Won;
         for letter in 0..self.count {
             if exponent(word, letter) > 0 {
@@ -216,7 +219,7 @@ impl<A: Allocator + Copy> Forms<'_, A> {
     pub fn is_p_beside(
         &mut self,
         form: usize,
-        word: &Exponents,
+        word: &HeapWord,
         work: &mut Work,
     ) -> Result<bool, Halt> {
         let both = self.times(form, word, work)?;
@@ -224,7 +227,7 @@ impl<A: Allocator + Copy> Forms<'_, A> {
     }
 
     /// Whether a position is P by the outcomes of its own options.
-    pub fn is_p_by_moves(&mut self, word: &Exponents, work: &mut Work) -> Result<bool, Halt> {
+    pub fn is_p_by_moves(&mut self, word: &HeapWord, work: &mut Work) -> Result<bool, Halt> {
         for _ in 0..u64::MAX {
             match self.seen(word, work)? {
                 Seen::Lost => return Ok(true),

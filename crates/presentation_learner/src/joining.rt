@@ -1,9 +1,10 @@
 //! Critical pairs of rules that don't join.
 use crate::faults::Blamed;
 use crate::forms::Forms;
-use crate::monomials::{beside, common_multiple, have_common, is_before, product};
+use crate::heap_words::{
+    HeapRule, HeapWord, beside, common_multiple, have_common, is_before, product,
+};
 use crate::table::WordTable;
-use normal_forms::{Exponents, Rule};
 use quotient_search::{Halt, Work};
 use std::alloc::Allocator;
 
@@ -15,7 +16,7 @@ const MOST_PAIRS: usize = 60;
 pub struct OpenPair {
     one: usize,
     other: usize,
-    word: Exponents,
+    word: HeapWord,
     left: usize,
     right: usize,
 }
@@ -23,8 +24,8 @@ pub struct OpenPair {
 /// What a rule makes of a word that has its left word in it.
 fn form_by<A: Allocator + Copy>(
     forms: &mut Forms<'_, A>,
-    rule: &Rule,
-    word: &Exponents,
+    rule: &HeapRule,
+    word: &HeapWord,
     work: &mut Work,
 ) -> Result<usize, Halt> {
     let right = forms.form_of(&rule.right, work)?;
@@ -86,7 +87,7 @@ impl OpenPair {
         forms: &mut Forms<'_, A>,
         contexts: &WordTable<A>,
         work: &mut Work,
-    ) -> Result<Option<Exponents>, Halt> {
+    ) -> Result<Option<HeapWord>, Halt> {
         for context in contexts.words.iter() {
             let is_p = forms.is_p_beside(self.left, context, work)?;
             if is_p != forms.is_p_beside(self.right, context, work)? {
@@ -97,15 +98,15 @@ impl OpenPair {
     }
 
     /// The rule that joins it.
-    fn joined<A: Allocator>(&self, forms: &Forms<'_, A>) -> Rule {
+    fn joined<A: Allocator>(&self, forms: &Forms<'_, A>) -> HeapRule {
         let (one, other) = (forms.table.word(self.left), forms.table.word(self.right));
         if is_before(&forms.part.weights, &one, &other) {
-            Rule {
+            HeapRule {
                 left: other,
                 right: one,
             }
         } else {
-            Rule {
+            HeapRule {
                 left: one,
                 right: other,
             }
@@ -119,9 +120,9 @@ impl OpenPair {
         forms: &mut Forms<'_, A>,
         contexts: &WordTable<A>,
         blamed: &mut Blamed<A>,
-        joining: &mut Vec<Rule, A>,
+        joining: &mut Vec<HeapRule, A>,
         work: &mut Work,
-    ) -> Result<Option<Exponents>, Halt> {
+    ) -> Result<Option<HeapWord>, Halt> {
         let Some(context) = self.telling(forms, contexts, work)? else {
             joining.push(self.joined(forms))?;
             return Ok(None);

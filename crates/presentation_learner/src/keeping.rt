@@ -1,16 +1,14 @@
 //! Positions at which the rule of play fails.
 use crate::forms::Forms;
-use crate::monomials::shortened_by;
+use crate::heap_words::{HeapWord, ONE, exponent, last_generator, lengthened, shortened_by};
 use crate::standard::Standard;
 use crate::table::WordTable;
-use crate::{ONE, exponent, last_letter, lengthened};
-use normal_forms::Exponents;
 use quotient_search::{Halt, Work};
 use running_pairs::{NONE, at, greatest};
 use std::alloc::Allocator;
 
 /// The most positions that are kept.
-const MOST_KEPT: usize = 60_000;
+const MOST_KEPT: usize = 100_000;
 
 /// How many failing positions are looked at in a round.
 const MOST_FAILING: usize = 60;
@@ -31,7 +29,7 @@ struct Kept<A: Allocator> {
     last: Vec<usize, A>,
     /// Where the positions of each weight begin.
     starts: Vec<usize, A>,
-    failing: Vec<Exponents, A>,
+    failing: Vec<HeapWord, A>,
 }
 
 /// Whether rising numbers are all among other rising numbers.
@@ -97,7 +95,7 @@ impl<A: Allocator + Copy> Kept<A> {
     fn options_of(
         &self,
         forms: &mut Forms<'_, A>,
-        word: &Exponents,
+        word: &HeapWord,
         work: &mut Work,
     ) -> Result<Option<(usize, Vec<usize, A>)>, Halt> {
         let mut options: Vec<usize, A> = Vec::new(self.alloc);
@@ -152,7 +150,7 @@ impl<A: Allocator + Copy> Kept<A> {
     }
 
     /// Keeps a position.
-    fn keep(&mut self, word: &Exponents, form: usize, options: &[usize]) -> Result<(), Halt> {
+    fn keep(&mut self, word: &HeapWord, form: usize, options: &[usize]) -> Result<(), Halt> {
         let number = self.table.add(word)?;
         if number >= MOST_KEPT {
             return Err(Halt::TooLarge);
@@ -173,7 +171,7 @@ impl<A: Allocator + Copy> Kept<A> {
     fn look(
         &mut self,
         forms: &mut Forms<'_, A>,
-        word: &Exponents,
+        word: &HeapWord,
         work: &mut Work,
     ) -> Result<(), Halt> {
         let Some((form, options)) = self.options_of(forms, word, work)? else {
@@ -194,7 +192,7 @@ impl<A: Allocator + Copy> Kept<A> {
         forms: &mut Forms<'_, A>,
         weight: usize,
         letter: usize,
-        most: u16,
+        most: u8,
         work: &mut Work,
     ) -> Result<(), Halt> {
         let each = at(&forms.part.weights, letter);
@@ -209,7 +207,7 @@ impl<A: Allocator + Copy> Kept<A> {
         for number in from..to {
             let word = self.table.word(number);
             let longer = lengthened(&word, letter);
-            if last_letter(&word) <= letter
+            if last_generator(&word) <= letter
                 && exponent(&longer, letter) <= most
                 && self.failing.len() < MOST_FAILING
             {
@@ -224,7 +222,7 @@ impl<A: Allocator + Copy> Kept<A> {
         &mut self,
         forms: &mut Forms<'_, A>,
         weight: usize,
-        most: u16,
+        most: u8,
         work: &mut Work,
     ) -> Result<(), Halt> {
         self.starts.push(self.forms.len())?;
@@ -246,9 +244,9 @@ impl<A: Allocator + Copy> Kept<A> {
 pub fn failing_positions<A: Allocator + Copy>(
     alloc: A,
     forms: &mut Forms<'_, A>,
-    most: u16,
+    most: u8,
     work: &mut Work,
-) -> Result<Vec<Exponents, A>, Halt> {
+) -> Result<Vec<HeapWord, A>, Halt> {
     let mut kept = Kept::new(alloc)?;
     let greatest = greatest(&forms.part.weights).saturating_add(1);
     for weight in 1..u32::MAX as usize {
@@ -287,8 +285,8 @@ fn has_lost_move<A: Allocator + Copy>(
 /// Adds the positions at which a move leads from P to P: those of a standard word and a generator more.
 fn add_moves_at<A: Allocator + Copy>(
     forms: &mut Forms<'_, A>,
-    found: &mut Vec<Exponents, A>,
-    word: &Exponents,
+    found: &mut Vec<HeapWord, A>,
+    word: &HeapWord,
     form: usize,
     work: &mut Work,
 ) -> Result<(), Halt> {
@@ -306,8 +304,8 @@ pub fn failing_moves<A: Allocator + Copy>(
     forms: &mut Forms<'_, A>,
     standard: &Standard<'_, A>,
     work: &mut Work,
-) -> Result<Vec<Exponents, A>, Halt> {
-    let mut found: Vec<Exponents, A> = Vec::new(alloc);
+) -> Result<Vec<HeapWord, A>, Halt> {
+    let mut found: Vec<HeapWord, A> = Vec::new(alloc);
     for (word, form) in standard.words.iter().zip(standard.forms.iter()) {
         add_moves_at(forms, &mut found, word, *form, work)?;
     }

@@ -1,6 +1,7 @@
 //! The search from a code alone.
 use crate::contexts::{far_contexts, first_contexts};
 use crate::forms::Forms;
+use crate::heap_words::HeapRule;
 use crate::lettering::{Lettered, learned_words, letters_of};
 use crate::part::{Part, Scope};
 use crate::portion::{Listing, long_cycles};
@@ -15,9 +16,9 @@ use running_pairs::{NONE, at};
 use std::alloc::Allocator;
 
 /// How many of each letter words have at most, at the first attempt, and how many more at each further one.
-const FIRST_MOST: u16 = 6;
+const FIRST_MOST: u8 = 6;
 
-const MORE: u16 = 3;
+const MORE: u8 = 3;
 
 /// How often generators that run are looked at further out.
 const PASSES: usize = 3;
@@ -44,8 +45,8 @@ fn running_of<A: Allocator + Copy>(alloc: A, stage: &Stage<A>) -> Result<Vec<usi
 }
 
 /// A list once more.
-fn again<A: Allocator + Copy>(alloc: A, rules: &[Rule]) -> Result<Vec<Rule, A>, Halt> {
-    let mut list: Vec<Rule, A> = Vec::new(alloc);
+fn again<A: Allocator + Copy>(alloc: A, rules: &[HeapRule]) -> Result<Vec<HeapRule, A>, Halt> {
+    let mut list: Vec<HeapRule, A> = Vec::new(alloc);
     list.extend_from_slice(rules)?;
     Ok(list)
 }
@@ -55,7 +56,7 @@ fn farther<A: Allocator + Copy>(
     alloc: A,
     part: &Part<A>,
     stage: Stage<A>,
-    most: u16,
+    most: u8,
     work: &mut Work,
 ) -> Result<Stage<A>, Halt> {
     let count = part.heaps.len();
@@ -128,7 +129,7 @@ fn text_of<A: Allocator + Copy>(
     alloc: A,
     code: &Code,
     part: &Part<A>,
-    rules: &[Rule],
+    rules: &[HeapRule],
     work: &mut Work,
 ) -> Result<Vec<u8, A>, Halt> {
     let mut forms = Forms::new(alloc, part, part.heaps.len(), rules)?;
@@ -180,7 +181,7 @@ impl<A: Allocator + Copy> Learner<A> {
     }
 
     /// What the next generator begins with: rules and contexts.
-    fn beginning(&self) -> Result<(Vec<Rule, A>, WordTable<A>), Halt> {
+    fn beginning(&self) -> Result<(Vec<HeapRule, A>, WordTable<A>), Halt> {
         let count = self.stages.len().saturating_add(1);
         match self.stages.get(self.stages.len().wrapping_sub(1)) {
             Some(stage) => Ok((
@@ -195,7 +196,7 @@ impl<A: Allocator + Copy> Learner<A> {
     }
 
     /// Learns the part's next generator.
-    fn learn(&mut self, part: &Part<A>, most: u16) -> Result<(), Halt> {
+    fn learn(&mut self, part: &Part<A>, most: u8) -> Result<(), Halt> {
         let count = self.stages.len().saturating_add(1);
         let (rules, contexts) = self.beginning()?;
         let stage = settled_rules(
@@ -242,7 +243,8 @@ impl<A: Allocator + Copy> Learner<A> {
         scope: Scope,
         attempt: u16,
     ) -> Result<Option<Vec<u8, A>>, Halt> {
-        let most = FIRST_MOST.saturating_add(MORE.saturating_mul(attempt));
+        let more = MORE.saturating_mul(u8::try_from(attempt).unwrap_or(u8::MAX));
+        let most = FIRST_MOST.saturating_add(more);
         let Some(part) = self.part(last, scope)? else {
             return Ok(None);
         };

@@ -19,6 +19,8 @@
 //!    those that no lighter position settles. Each is traced down, move by move and rule by rule, to one below which no
 //!    contradiction is seen. There the rules that say another outcome than the moves are wrong. They go, and what was
 //!    beside them becomes a context. Then words are taken anew, until nothing contradicts the rules.
+//!    A contradiction that comes again though its rules went is traced down by both lists of rules, with these and
+//!    without, to where outcomes begin to differ.
 //! 4. Generators whose powers reach the bound may *run*, that is, have no power that is another word. Contexts with
 //!    many more of them are tried, too.
 //! 5. Rules become relations between letters by their order: words of letters are taken once more, and two are one if
@@ -29,11 +31,13 @@
 //! | Module | What it does |
 //! |---|---|
 //! | `part` | heaps, and what their moves leave |
-//! | `monomials`, `table` | words of generators, their order, and their numbers |
+//! | `heap_words`, `table` | words of generators, their order, and their numbers |
 //! | `forms` | normal forms, and their outcomes |
 //! | `contexts` | contexts with which rounds begin |
 //! | `standard` | standard words, the tree of contexts, and new rules |
-//! | `faults`, `joining`, `keeping` | contradictions, and which rules are wrong |
+//! | `prefixes` | what contexts have in common |
+//! | `faults`, `routes`, `joining`, `keeping` | contradictions, and which rules are wrong |
+//! | `earlier`, `parting` | contradictions that come again |
 //! | `rounds` | round by round, until nothing contradicts the rules |
 //! | `lettering`, `portion` | letters, relations and portion |
 //! | `learning` | generator by generator, and the text |
@@ -43,16 +47,20 @@
 mod contexts;
 mod cycles;
 mod drafting;
+mod earlier;
 mod faults;
 mod forms;
+mod heap_words;
 mod joining;
 mod keeping;
 mod learning;
 mod lettering;
-mod monomials;
 mod part;
+mod parting;
 mod portion;
+mod prefixes;
 mod rounds;
+mod routes;
 mod standard;
 mod table;
 mod words;

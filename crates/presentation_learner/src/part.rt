@@ -1,7 +1,7 @@
 //! A part of a game: heaps, and what their moves leave.
+use crate::heap_words::GENERATORS;
 use heap_options::{Left, options};
 use octal_code::Code;
-use presentations::LETTERS;
 use quotient_search::Halt;
 use running_pairs::{NONE, at, byte, heap_weight, put, put_byte};
 use std::alloc::Allocator;
@@ -102,7 +102,7 @@ impl<A: Allocator> Part<A> {
         if self.rests.len() == before {
             return Ok(());
         }
-        if self.heaps.len() >= LETTERS {
+        if self.heaps.len() >= GENERATORS {
             return Err(Halt::TooLarge);
         }
         put(&mut self.numbers, heap, self.heaps.len());

@@ -1,17 +1,14 @@
 //! Rules that nothing contradicts, round by round.
+use crate::earlier::Earlier;
 use crate::faults::Blamed;
 use crate::forms::Forms;
+use crate::heap_words::{GENERATORS, HeapRule, HeapWord, exponent, is_in, product, with_exponent};
 use crate::joining::open_pairs;
 use crate::keeping::{failing_moves, failing_positions};
-use crate::monomials::product;
 use crate::part::Part;
 use crate::standard::{Standard, standard_words};
 use crate::table::WordTable;
-use crate::{exponent, is_in, with_exponent};
-use normal_forms::{Exponents, Rule};
-use presentations::LETTERS;
 use quotient_search::{Halt, Work};
-use running_pairs::{at, put};
 use std::alloc::Allocator;
 
 /// The most rounds.
@@ -21,22 +18,16 @@ const MOST_ROUNDS: usize = 3000;
 const MOST_CONTEXTS: usize = 20_000;
 
 /// How many contexts around one that tells are taken, on each side.
-const NEAR: u16 = 3;
+const NEAR: u8 = 3;
 
 /// The largest exponent of a context that is taken up in a round.
-const FARTHEST: u16 = 44;
-
-/// How often a contradiction comes at one position until all rules in it are taken for wrong.
-const PATIENCE: usize = 4;
-
-/// How often until all rules of smaller words are.
-const MORE_PATIENCE: usize = 12;
+const FARTHEST: u8 = 44;
 
 /// Rules of the first `count` generators of a part that nothing contradicts, the contexts that tell their standard
 /// words apart, and for each generator whether it runs as far as words were looked at.
 #[derive(Drop)]
 pub struct Stage<A: Allocator> {
-    pub rules: Vec<Rule, A>,
+    pub rules: Vec<HeapRule, A>,
     pub contexts: WordTable<A>,
     pub runs: Vec<u8, A>,
 }
@@ -45,30 +36,29 @@ pub struct Stage<A: Allocator> {
 #[derive(Drop)]
 enum Finding<A: Allocator> {
     Wrong(Blamed<A>),
-    New(Vec<Rule, A>),
+    New(Vec<HeapRule, A>),
     Settled {
         contexts: WordTable<A>,
         runs: Vec<u8, A>,
     },
 }
 
-/// Rules and contexts on the way, and the positions at which contradictions came, with how often they did.
+/// Rules and contexts on the way, and what was contradicted in earlier rounds.
 #[derive(Drop)]
 struct Rounds<A: Allocator> {
     alloc: A,
-    rules: Vec<Rule, A>,
+    rules: Vec<HeapRule, A>,
     contexts: WordTable<A>,
-    places: WordTable<A>,
-    counts: Vec<usize, A>,
+    earlier: Earlier<A>,
 }
 
 /// A position beside which a rule fails by its moves, if a context makes one.
 fn failing_of<A: Allocator + Copy>(
     forms: &mut Forms<'_, A>,
-    rule: &Rule,
+    rule: &HeapRule,
     contexts: &WordTable<A>,
     work: &mut Work,
-) -> Result<Option<Exponents>, Halt> {
+) -> Result<Option<HeapWord>, Halt> {
     let right = forms.form_of(&rule.right, work)?;
     for context in contexts.words.iter() {
         let form = forms.form_of(context, work)?;
@@ -102,28 +92,10 @@ fn test_rules<A: Allocator + Copy>(
     Ok(())
 }
 
-/// Takes for wrong what rules make wrong at positions at which contradictions came before.
-fn test_places<A: Allocator + Copy>(
-    forms: &mut Forms<'_, A>,
-    known: &[Exponents],
-    blamed: &mut Blamed<A>,
-    places: &mut WordTable<A>,
-    work: &mut Work,
-) -> Result<(), Halt> {
-    for word in known.iter() {
-        let before = blamed.contexts.len();
-        let place = blamed.blame(forms, word, work)?;
-        if blamed.contexts.len() > before {
-            places.add(&place)?;
-        }
-    }
-    Ok(())
-}
-
 /// Takes for wrong each rule that is in a position at which play fails, where none is blamed.
 fn blame_failing<A: Allocator + Copy>(
     forms: &mut Forms<'_, A>,
-    failing: &[Exponents],
+    failing: &[HeapWord],
     blamed: &mut Blamed<A>,
     places: &mut WordTable<A>,
     work: &mut Work,
@@ -144,10 +116,10 @@ fn blame_failing<A: Allocator + Copy>(
 /// The rules that aren't taken for wrong.
 fn left_of<A: Allocator + Copy>(
     alloc: A,
-    rules: &[Rule],
+    rules: &[HeapRule],
     blamed: &Blamed<A>,
-) -> Result<Vec<Rule, A>, Halt> {
-    let mut left: Vec<Rule, A> = Vec::new(alloc);
+) -> Result<Vec<HeapRule, A>, Halt> {
+    let mut left: Vec<HeapRule, A> = Vec::new(alloc);
     for (number, rule) in rules.iter().enumerate() {
         if !blamed.has(number) {
             left.push(*rule)?;
@@ -157,7 +129,7 @@ fn left_of<A: Allocator + Copy>(
 }
 
 /// Whether no other rule's left word is in a rule's left word; of equal ones the last is needed.
-fn is_needed(rules: &[Rule], number: usize, rule: &Rule) -> bool {
+fn is_needed(rules: &[HeapRule], number: usize, rule: &HeapRule) -> bool {
     for (other, before) in rules.iter().enumerate() {
         let is_other = other > number || (other < number && !is_in(&rule.left, &before.left));
         if is_other && is_in(&before.left, &rule.left) {
@@ -168,8 +140,8 @@ fn is_needed(rules: &[Rule], number: usize, rule: &Rule) -> bool {
 }
 
 /// The rules that are needed.
-fn needed_of<A: Allocator + Copy>(alloc: A, rules: &[Rule]) -> Result<Vec<Rule, A>, Halt> {
-    let mut needed: Vec<Rule, A> = Vec::new(alloc);
+fn needed_of<A: Allocator + Copy>(alloc: A, rules: &[HeapRule]) -> Result<Vec<HeapRule, A>, Halt> {
+    let mut needed: Vec<HeapRule, A> = Vec::new(alloc);
     for (number, rule) in rules.iter().enumerate() {
         if is_needed(rules, number, rule) {
             needed.push(*rule)?;
@@ -179,19 +151,8 @@ fn needed_of<A: Allocator + Copy>(alloc: A, rules: &[Rule]) -> Result<Vec<Rule, 
 }
 
 impl<A: Allocator + Copy> Rounds<A> {
-    /// How often a contradiction came at a position, with this time.
-    fn times_at(&mut self, word: &Exponents) -> Result<usize, Halt> {
-        let number = self.places.add(word)?;
-        if number >= self.counts.len() {
-            self.counts.push(0usize)?;
-        }
-        let count = at(&self.counts, number).saturating_add(1);
-        put(&mut self.counts, number, count);
-        Ok(count)
-    }
-
     /// Takes up the contexts around one along a letter.
-    fn add_near(&mut self, context: &Exponents, letter: usize) -> Result<(), Halt> {
+    fn add_near(&mut self, context: &HeapWord, letter: usize) -> Result<(), Halt> {
         let count = exponent(context, letter);
         for more in 1..NEAR.saturating_add(1) {
             self.contexts.add(&with_exponent(context, letter, count.saturating_add(more)))?;
@@ -201,9 +162,9 @@ impl<A: Allocator + Copy> Rounds<A> {
     }
 
     /// Takes up a context, and those around it.
-    fn add_context(&mut self, context: &Exponents) -> Result<(), Halt> {
+    fn add_context(&mut self, context: &HeapWord) -> Result<(), Halt> {
         self.contexts.add(context)?;
-        for letter in 0..LETTERS {
+        for letter in 0..GENERATORS {
             let count = exponent(context, letter);
             if count >= NEAR && count < FARTHEST {
                 self.add_near(context, letter)?;
@@ -224,8 +185,8 @@ fn join<A: Allocator + Copy>(
     blamed: &mut Blamed<A>,
     places: &mut WordTable<A>,
     work: &mut Work,
-) -> Result<Vec<Rule, A>, Halt> {
-    let mut joining: Vec<Rule, A> = Vec::new(alloc);
+) -> Result<Vec<HeapRule, A>, Halt> {
+    let mut joining: Vec<HeapRule, A> = Vec::new(alloc);
     let open = open_pairs(alloc, forms, work)?;
     for pair in open.iter() {
         if let Some(place) = pair.resolve(forms, contexts, blamed, &mut joining, work)? {
@@ -240,13 +201,13 @@ fn finding_of<A: Allocator + Copy>(
     alloc: A,
     forms: &mut Forms<'_, A>,
     contexts: &WordTable<A>,
-    known: &[Exponents],
-    most: u16,
+    earlier: &Earlier<A>,
+    most: u8,
     places: &mut WordTable<A>,
     work: &mut Work,
 ) -> Result<Finding<A>, Halt> {
     let mut blamed = Blamed::new(alloc, forms.rules.len())?;
-    test_places(forms, known, &mut blamed, places, work)?;
+    earlier.test(forms, &mut blamed, places, work)?;
     if !blamed.is_empty() {
         return Ok(Finding::Wrong(blamed));
     }
@@ -275,7 +236,7 @@ fn played<A: Allocator + Copy>(
     forms: &mut Forms<'_, A>,
     standard: Standard<'_, A>,
     blamed: Blamed<A>,
-    most: u16,
+    most: u8,
     places: &mut WordTable<A>,
     work: &mut Work,
 ) -> Result<Finding<A>, Halt> {
@@ -305,28 +266,11 @@ impl<A: Allocator + Copy> Rounds<A> {
     }
 
     /// Takes up new rules.
-    fn take(&mut self, new: &[Rule]) -> Result<(), Halt> {
+    fn take(&mut self, new: &[HeapRule]) -> Result<(), Halt> {
         self.rules.extend_from_slice(new)?;
-        self.rules = needed_of(self.alloc, &self.rules)?;
-        Ok(())
-    }
-
-    /// Takes for wrong all rules in positions at which contradictions come again and again.
-    fn lose_patience(
-        &mut self,
-        blamed: &mut Blamed<A>,
-        places: &[Exponents],
-        weights: &[usize],
-    ) -> Result<(), Halt> {
-        for place in places.iter() {
-            let times = self.times_at(place)?;
-            if times % PATIENCE == 0 {
-                blamed.add_all_in(&self.rules, place)?;
-            }
-            if times % MORE_PATIENCE == 0 {
-                blamed.add_all_before(&self.rules, weights, place)?;
-            }
-        }
+        let needed = needed_of(self.alloc, &self.rules)?;
+        self.earlier.take_spared(&self.rules, &needed)?;
+        self.rules = needed;
         Ok(())
     }
 
@@ -335,7 +279,7 @@ impl<A: Allocator + Copy> Rounds<A> {
         &mut self,
         part: &Part<A>,
         count: usize,
-        most: u16,
+        most: u8,
         work: &mut Work,
     ) -> Result<Option<(WordTable<A>, Vec<u8, A>)>, Halt> {
         let mut places = WordTable::new(self.alloc)?;
@@ -344,7 +288,7 @@ impl<A: Allocator + Copy> Rounds<A> {
             self.alloc,
             &mut forms,
             &self.contexts,
-            &self.places.words,
+            &self.earlier,
             most,
             &mut places,
             work,
@@ -352,7 +296,9 @@ impl<A: Allocator + Copy> Rounds<A> {
         drop(forms);
         match finding {
             Finding::Wrong(mut blamed) => {
-                self.lose_patience(&mut blamed, &places.words, &part.weights)?;
+                self.earlier
+                    .take_places(&mut blamed, &self.rules, &places.words, &part.weights)?;
+                self.earlier.take_rules(&blamed, &self.rules)?;
                 self.refute(&blamed)?;
             }
             Finding::New(new) => self.take(&new)?,
@@ -368,17 +314,16 @@ pub fn settled_rules<A: Allocator + Copy>(
     alloc: A,
     part: &Part<A>,
     count: usize,
-    rules: Vec<Rule, A>,
+    rules: Vec<HeapRule, A>,
     contexts: WordTable<A>,
-    most: u16,
+    most: u8,
     work: &mut Work,
 ) -> Result<Stage<A>, Halt> {
     let mut rounds = Rounds {
         alloc,
         rules,
         contexts,
-        places: WordTable::new(alloc)?,
-        counts: Vec::new(alloc),
+        earlier: Earlier::new(alloc)?,
     };
     for _ in 0..MOST_ROUNDS {
         if let Some((contexts, runs)) = rounds.round(part, count, most, work)? {

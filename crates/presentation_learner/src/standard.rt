@@ -1,14 +1,16 @@
 //! Standard words and new rules, word by word, by their order.
 use crate::forms::Forms;
+use crate::heap_words::{
+    HeapRule, HeapWord, ONE, exponent, is_reducible_at, last_generator, lengthened,
+};
+use crate::prefixes::{Prefixes, Row};
 use crate::table::WordTable;
-use crate::{ONE, exponent, is_reducible_at, last_letter, lengthened};
-use normal_forms::{Exponents, Rule};
 use quotient_search::{Halt, Work};
 use running_pairs::{NONE, at, byte, greatest, put, put_byte};
 use std::alloc::Allocator;
 
 /// The most standard words.
-const MOST_WORDS: usize = 6000;
+const MOST_WORDS: usize = 20_000;
 
 /// The most bytes of what is seen of standard words.
 const MOST_SEEN: usize = 1 << 28;
@@ -21,7 +23,12 @@ const UNKNOWN: u8 = 2;
 #[derive(Drop)]
 pub struct Standard<'a, A: Allocator> {
     contexts: &'a WordTable<A>,
-    pub words: Vec<Exponents, A>,
+    prefixes: Prefixes<A>,
+    /// The rows of the last word, and of another one, with this one's number.
+    row: Row<A>,
+    other_row: Row<A>,
+    other: usize,
+    pub words: Vec<HeapWord, A>,
     pub forms: Vec<usize, A>,
     /// For each word and context whether both together are P.
     seen: Vec<u8, A>,
@@ -29,7 +36,7 @@ pub struct Standard<'a, A: Allocator> {
     below: Vec<usize, A>,
     /// Where the words of each weight begin.
     starts: Vec<usize, A>,
-    pub rules: Vec<Rule, A>,
+    pub rules: Vec<HeapRule, A>,
     /// For each generator whether a standard word has as many of it as are looked at.
     pub runs: Vec<u8, A>,
 }
@@ -41,8 +48,13 @@ impl<'a, A: Allocator + Copy> Standard<'a, A> {
         contexts: &'a WordTable<A>,
         count: usize,
     ) -> Result<Standard<'a, A>, Halt> {
+        let prefixes = Prefixes::of(alloc, contexts)?;
         Ok(Standard {
             contexts,
+            row: prefixes.row(0)?,
+            other_row: prefixes.row(0)?,
+            other: 0,
+            prefixes,
             words: Vec::from_slice(alloc, &[ONE])?,
             forms: Vec::from_slice(alloc, &[0usize])?,
             seen: vec![in alloc; UNKNOWN; contexts.words.len()]?,
@@ -56,6 +68,24 @@ impl<'a, A: Allocator + Copy> Standard<'a, A> {
 }
 
 impl<A: Allocator + Copy> Standard<'_, A> {
+    /// The form of a word beside a context.
+    fn both(
+        &mut self,
+        forms: &mut Forms<'_, A>,
+        item: usize,
+        context: usize,
+        work: &mut Work,
+    ) -> Result<usize, Halt> {
+        if item.saturating_add(1) == self.words.len() {
+            return self.row.beside(forms, &self.prefixes, context, work);
+        }
+        if item != self.other {
+            self.other = item;
+            self.other_row.begin(at(&self.forms, item));
+        }
+        self.other_row.beside(forms, &self.prefixes, context, work)
+    }
+
     /// Whether a word is P beside a context: 1 or 0.
     fn bit(
         &mut self,
@@ -71,8 +101,8 @@ impl<A: Allocator + Copy> Standard<'_, A> {
         if known != UNKNOWN {
             return Ok(known);
         }
-        let beside = self.contexts.word(context);
-        let bit = u8::from(forms.is_p_beside(at(&self.forms, item), &beside, work)?);
+        let both = self.both(forms, item, context, work)?;
+        let bit = u8::from(forms.is_p(both, work)?);
         put_byte(&mut self.seen, place, bit);
         Ok(bit)
     }
@@ -118,13 +148,14 @@ impl<A: Allocator + Copy> Standard<'_, A> {
     fn put(
         &mut self,
         forms: &mut Forms<'_, A>,
-        word: &Exponents,
+        word: &HeapWord,
         work: &mut Work,
     ) -> Result<(), Halt> {
         let item = self.words.len();
         let form = forms.form_of(word, work)?;
         self.words.push(*word)?;
         self.forms.push(form)?;
+        self.row.begin(form);
         let before = self.seen.len();
         let room = before.saturating_add(self.contexts.words.len());
         if item >= MOST_WORDS || room > MOST_SEEN {
@@ -142,7 +173,7 @@ impl<A: Allocator + Copy> Standard<'_, A> {
         self.seen.truncate(before);
         let right = self.words.get(other).copied().unwrap_or(ONE);
         self.rules
-            .push(Rule { left: *word, right })
+            .push(HeapRule { left: *word, right })
             .map_err(Halt::from)
     }
 
@@ -165,7 +196,7 @@ impl<A: Allocator + Copy> Standard<'_, A> {
     }
 
     /// Whether the left word of some rule is in a word that has none but for the last of a letter.
-    fn is_reducible(&self, forms: &Forms<'_, A>, word: &Exponents, letter: usize) -> bool {
+    fn is_reducible(&self, forms: &Forms<'_, A>, word: &HeapWord, letter: usize) -> bool {
         is_reducible_at(forms.rules, word, letter) || is_reducible_at(&self.rules, word, letter)
     }
 
@@ -175,11 +206,11 @@ impl<A: Allocator + Copy> Standard<'_, A> {
         forms: &mut Forms<'_, A>,
         item: usize,
         letter: usize,
-        most: u16,
+        most: u8,
         work: &mut Work,
     ) -> Result<(), Halt> {
         let word = self.words.get(item).copied().unwrap_or(ONE);
-        if last_letter(&word) > letter {
+        if last_generator(&word) > letter {
             return Ok(());
         }
         let longer = lengthened(&word, letter);
@@ -200,7 +231,7 @@ impl<A: Allocator + Copy> Standard<'_, A> {
         forms: &mut Forms<'_, A>,
         weight: usize,
         letter: usize,
-        most: u16,
+        most: u8,
         work: &mut Work,
     ) -> Result<(), Halt> {
         let each = at(&forms.part.weights, letter);
@@ -223,7 +254,7 @@ impl<A: Allocator + Copy> Standard<'_, A> {
         &mut self,
         forms: &mut Forms<'_, A>,
         weight: usize,
-        most: u16,
+        most: u8,
         work: &mut Work,
     ) -> Result<(), Halt> {
         self.starts.push(self.words.len())?;
@@ -256,7 +287,7 @@ pub fn standard_words<'a, A: Allocator + Copy>(
     alloc: A,
     forms: &mut Forms<'_, A>,
     contexts: &'a WordTable<A>,
-    most: u16,
+    most: u8,
     work: &mut Work,
 ) -> Result<Standard<'a, A>, Halt> {
     let mut standard = Standard::of_nothing(alloc, contexts, forms.count)?;

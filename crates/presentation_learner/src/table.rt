@@ -1,7 +1,5 @@
 //! Words with numbers.
-use crate::{ONE, exponent};
-use normal_forms::{Exponents, is_word};
-use presentations::LETTERS;
+use crate::heap_words::{HeapWord, ONE, is_same};
 use quotient_search::Halt;
 use running_pairs::{NONE, put, rest};
 use std::alloc::Allocator;
@@ -13,18 +11,21 @@ const FIRST_SLOTS: usize = 1024;
 #[derive(Drop)]
 pub struct WordTable<A: Allocator> {
     alloc: A,
-    pub words: Vec<Exponents, A>,
+    pub words: Vec<HeapWord, A>,
     slots: Vec<usize, A>,
 }
 
 /// A number that is seldom the same for different words.
-fn mixed(word: &Exponents) -> usize {
+fn mixed(word: &HeapWord) -> usize {
     let mut sum = 0u64;
-    for letter in 0..LETTERS {
-        sum = sum
-            .wrapping_add(exponent(word, letter) as u64)
-            .wrapping_mul(0x9e37_79b9_7f4a_7c15);
-        sum = sum.wrapping_add(sum / 0x1_0000_0000);
+    for (generator, count) in word.iter().enumerate() {
+        if *count > 0 {
+            sum = sum
+                .wrapping_add((generator as u64).wrapping_mul(256))
+                .wrapping_add(*count as u64)
+                .wrapping_mul(0x9e37_79b9_7f4a_7c15);
+            sum = sum.wrapping_add(sum / 0x1_0000_0000);
+        }
     }
     (sum / 0x10_0000) as usize
 }
@@ -40,7 +41,7 @@ impl<A: Allocator + Copy> WordTable<A> {
     }
 
     /// The number of a word, which is put in if it isn't there.
-    pub fn add(&mut self, word: &Exponents) -> Result<usize, Halt> {
+    pub fn add(&mut self, word: &HeapWord) -> Result<usize, Halt> {
         let slot = self.slot_of(word);
         let known = self.number_in(slot);
         if known != NONE {
@@ -69,7 +70,7 @@ impl<A: Allocator + Copy> WordTable<A> {
 impl<A: Allocator> WordTable<A> {
     /// The word with a number.
     #[inline]
-    pub fn word(&self, number: usize) -> Exponents {
+    pub fn word(&self, number: usize) -> HeapWord {
         match self.words.get(number) {
             Some(word) => *word,
             None => ONE,
@@ -86,11 +87,11 @@ impl<A: Allocator> WordTable<A> {
     }
 
     /// The slot of a word, or the one that it is to come to.
-    fn slot_of(&self, word: &Exponents) -> usize {
+    fn slot_of(&self, word: &HeapWord) -> usize {
         let mut slot = rest(mixed(word), self.slots.len());
         for _ in 0..self.slots.len() {
             let number = self.number_in(slot);
-            if number == NONE || is_word(&self.word(number), word) {
+            if number == NONE || is_same(&self.word(number), word) {
                 break;
             }
             slot = rest(slot.wrapping_add(1), self.slots.len());
@@ -99,7 +100,7 @@ impl<A: Allocator> WordTable<A> {
     }
 
     /// The number of a word, or `NONE`.
-    pub fn find(&self, word: &Exponents) -> usize {
+    pub fn find(&self, word: &HeapWord) -> usize {
         self.number_in(self.slot_of(word))
     }
 }
