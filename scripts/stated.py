@@ -148,15 +148,15 @@ def names_in(tree: str) -> Iterator[tuple[str, str]]:
         yield top.strip(), it
 
 
-def handed_out(top: str) -> tuple[set[str], dict[str, str]]:
-    """The names of lib.rt that are its crate's own, and those that are of another crate."""
-    own, others = set[str](), dict[str, str]()
+def handed_out(top: str) -> tuple[dict[str, str], dict[str, str]]:
+    """The names of lib.rt that are its crate's own, with their modules, and those that are of another crate."""
+    own, others = dict[str, str](), dict[str, str]()
     modules = set(re.findall(r"^(?:pub )?mod (\w+);", top, re.M))
     for tree in re.findall(r"^pub use ([^;]+);", top, re.M):
         for first, name in names_in(tree):
             last = name.split(" as ")[-1]
             if first in modules or first in ("crate", "self"):
-                own.add(last)
+                own[last] = first
             else:
                 others[last] = first
     return own, others
@@ -170,7 +170,9 @@ def is_without_code(body: list[str]) -> bool:
 class Reader:
     """The public items of a file of src/, line by line as `rt fmt` lays them out."""
 
-    def __init__(self, file: File, lines: list[str], is_public: bool, names: set[str], cited: set[str]) -> None:
+    def __init__(
+        self, file: File, lines: list[str], is_public: bool, names: dict[str, str], cited: set[str]
+    ) -> None:
         self.file, self.lines, self.at = file, lines, 0
         self.is_public, self.names, self.cited = is_public, names, cited
         self.about: list[str] = []
@@ -204,9 +206,14 @@ class Reader:
     def is_handed_out(self, name: str) -> bool:
         return self.is_public or name in self.names
 
+    def is_handed_out_here(self, name: str) -> bool:
+        """Whether a function or a constant without a holder is: another module may have one of the same name."""
+        module = self.file.name.split("/")[0].removesuffix(".rt")
+        return self.is_public or self.names.get(name) in (module, "crate", "self")
+
     def is_shown(self, name: str, line: str) -> bool:
         """Whether a type or a constant is: others may use it, or definitions cite it."""
-        return line.startswith("pub ") and self.is_handed_out(name) or name in self.cited
+        return line.startswith("pub ") and self.is_handed_out_here(name) or name in self.cited
 
     def open(self, word: str, head: str) -> None:
         """Goes into an impl or a trait: of a model what contracts see of the type, of a trait its ghosts."""
@@ -273,7 +280,8 @@ class Reader:
             self.at += 1
         kind = "call" if ended.endswith(";") or not is_without_code(body) or self.holder else "law"
         is_for_c = 'extern "C"' in head[0]
-        if is_for_c or self.is_handed_out(self.holder or name):
+        is_out = self.is_handed_out(self.holder) if self.holder else self.is_handed_out_here(name)
+        if is_for_c or is_out:
             self.add(kind, f"{self.holder}::{name}" if self.holder else name, [it[indent:] for it in head])
         self.about = []
 
@@ -284,7 +292,7 @@ class Reader:
             self.at += 1
             lines.append(self.lines[self.at])
         self.at += 1
-        if lines[0].startswith("pub struct") and len(lines) > 1 and name not in self.cited - self.names:
+        if lines[0].startswith("pub struct") and len(lines) > 1 and name not in self.cited - self.names.keys():
             fields = list(open_fields(lines[1:-1]))
             lines = [lines[0], *fields, lines[-1]] if fields else [f"{lines[0]} .. }}"]
         if self.is_shown(name, lines[0]):
@@ -308,7 +316,9 @@ def open_fields(lines: list[str]) -> Iterator[str]:
             about = []
 
 
-def source_file(crate: str, path: pathlib.Path, is_public: bool, names: set[str], cited: set[str]) -> File:
+def source_file(
+    crate: str, path: pathlib.Path, is_public: bool, names: dict[str, str], cited: set[str]
+) -> File:
     """A file of src/ with what it hands out, and the types that definitions cite."""
     text = path.read_text()
     file = File(crate, str(path.relative_to(CRATES / crate / "src")), False)
